@@ -1,0 +1,12 @@
+pub mod Graph
+pub mod Forest
+pub mod Sums
+pub mod Carry
+pub mod Equivalence
+pub mod Lists
+pub mod Climb
+pub mod Turning
+pub mod Growth
+pub mod Count
+pub mod Potential
+pub mod Ground
