@@ -22,6 +22,6 @@ one None = []
 one (Some s) = s ∷ []
 
 -- the steps that words stand for
-abbrev pub steps : List ℕ → List Step
-steps [] = []
-steps (w ∷ ws) = one (decode w) ++ steps ws
+abbrev pub stepsOf : List ℕ → List Step
+stepsOf [] = []
+stepsOf (w ∷ ws) = one (decode w) ++ stepsOf ws

@@ -1,0 +1,7 @@
+mod Promise
+mod Places
+mod Closes
+mod Keeps
+mod Walks
+mod Walked
+pub mod Told

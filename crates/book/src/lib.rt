@@ -1,0 +1,12 @@
+mod book;
+mod issue;
+mod link;
+mod size;
+mod store;
+mod strike;
+mod trip;
+mod walk;
+
+pub use self::book::Book;
+pub use self::store::Refused;
+pub use search::Link;

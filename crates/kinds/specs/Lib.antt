@@ -1,0 +1,4 @@
+pub mod Ticks
+pub mod TickLaws
+pub mod Places
+pub mod PlaceLaws

@@ -1,0 +1,11 @@
+pub mod Wiring
+pub mod Climbs
+pub mod Hanging
+pub mod Labels
+pub mod Joining
+pub mod Ways
+pub mod Gaps
+pub mod Settling
+pub mod Stacking
+pub mod Carrying
+pub mod Verdicts
