@@ -1,0 +1,6 @@
+mod Front
+mod Long
+mod Codes
+mod Hexes
+mod Deeds
+mod Course
