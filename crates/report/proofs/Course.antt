@@ -136,3 +136,9 @@ module _ {L T : Type 0} (M : Meaning L T) (kind : FileKind) (capacity : ℕ) (ro
 
 pub same-sizes : {T : Type 0} (a a′ : List T) (b b′ d d′ : List ℕ) → length a ≡ length a′ → length b ≡ length b′ → length d ≡ length d′ → sizes (record { totals = a; numbers = b; steps = d }) ≡ sizes (record { totals = a′; numbers = b′; steps = d′ })
 same-sizes a a′ b b′ d d′ p q r = rw (p, q, r) refl
+
+-- a line is all that was written to its row
+pub step-wrote : {L T : Type 0} (M : Meaning L T) (r : Reading) (s : State (M .quantities .Q)) (m m′ : Lent T) (row row′ : List ℕ) (l : Line) (r′ : Reading) (s′ : State (M .quantities .Q))
+    → Step M r s m m′ row row′ l r′ s′ → Wrote row 0 (take (l .bytes) row′) row′ (l .bytes)
+step-wrote M r s m m′ row row′ l _ _ (did e o t x d w f y) = subst (λ bs. Wrote row 0 bs row′ (l .bytes)) (sym (w .front)) w
+step-wrote M r s m m′ row row′ l _ _ (failed f x w g y) = subst (λ bs. Wrote row 0 bs row′ (l .bytes)) (sym (w .front)) w

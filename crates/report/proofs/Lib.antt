@@ -4,3 +4,4 @@ mod Codes
 mod Hexes
 mod Deeds
 mod Course
+mod Parts

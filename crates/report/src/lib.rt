@@ -15,5 +15,8 @@ pub use self::file::FileKind;
 pub use self::session::Line;
 pub use self::session::Session;
 pub use self::session::ShortLine;
+pub use self::whole::Filled;
 pub use self::whole::Full;
+pub use self::whole::format_stands;
 pub use self::whole::run;
+pub use self::whole::run_file;

@@ -1,20 +1,14 @@
 ghost use mathlib.Core.Path.{_≡_};
-ghost use mathlib.Core.Bool.{true, false};
-ghost use mathlib.Core.List.{List};
-ghost use Prim.Native.Nat.{ℕ, _+_, _≤_, _<_};
+ghost use Prim.Native.Nat.{_≤_};
 ghost use lib.ListN.{length};
 ghost use Rattle.std.specs.declared.result.Result.the-variants.{Ok as Good, Err as Bad};
-ghost use Rattle.std.specs.declared.option.Option.{Option as Maybe};
-ghost use Rattle.std.specs.declared.option.Option.the-variants.{Some as There, None as Nothing};
-ghost use Rattle.text.specs.Writing.{Wrote};
+ghost use Rattle.std.specs.declared.option.Option.the-variants.{Some as There};
 ghost use Rattle.book.specs.Memory.{stateOf};
-ghost use Rattle.report.specs.Entries.{Item, itemOf, foundOf};
+ghost use Rattle.report.specs.Entries.{itemOf, foundOf};
 ghost use Rattle.report.specs.Reading.{readingOf, unread, ahead, firstWord};
-ghost use Rattle.report.specs.Doing.{Outcome, Lent, lentOf, sizes};
+ghost use Rattle.report.specs.Doing.{Lent, lentOf};
 ghost use Rattle.report.specs.Faults.{replyFault};
-ghost use Rattle.report.specs.History.{Step, Told, Next, History, Onward};
-ghost use Rattle.report.specs.declared.file.FileFault.{FileFault as Trouble};
-ghost use Rattle.report.specs.declared.file.FileKind.{FileKind as Sort};
+ghost use Rattle.report.specs.History.{Step, Next};
 use book::Book;
 use crate::doing::perform;
 use crate::fault::CallFault;
@@ -31,7 +25,7 @@ use crate::reader::Reader;
 use kind::Kind;
 
 // A line row has to have so many bytes.
-const LINE_ROOM: usize = 32768;
+pub const LINE_ROOM: usize = 32768;
 
 // A line row of fewer than 32,768 bytes: refusal 10.
 #[derive(Clone, Copy)]
