@@ -28,20 +28,20 @@ pub struct Store<'a, L> {
 }
 
 impl<'a, L: Copy> Store<'a, L> {
-    pub fn reaches_past(&self, n: u32) -> bool
+    pub(crate) fn reaches_past(&self, n: u32) -> bool
         requires { ⌜ now self .count ≤ length (now (now self .links)) ⌝ }
         ensures { λ r. ⌜ Seen (Past n) (records (now (self .entry))) r ⌝ }
     {
         any_past(&self.links[0..self.count], n)
     }
 
-    pub fn is_full(&self) -> bool
+    pub(crate) fn is_full(&self) -> bool
         ensures { λ r. ⌜ elim r [ true ↦ capacityOf (now (self .entry)) ≤ now (self .entry) .count | false ↦ now (self .entry) .count < capacityOf (now (self .entry)) ] ⌝ }
     {
         self.count >= self.links.len() || self.count >= MAX_LINKS
     }
 
-    pub fn get(&self, at: usize) -> Link<L>
+    pub(crate) fn get(&self, at: usize) -> Link<L>
         requires room { ⌜ now self .count ≤ length (now (now self .links)) ⌝ }
         requires stands { ⌜ at < now self .count ⌝ }
         ensures { λ r. ⌜ ((d : Link L) → r ≡ getD (records (now (self .entry))) at d) ⌝ }
@@ -49,7 +49,7 @@ impl<'a, L: Copy> Store<'a, L> {
         read(&self.links[0..self.count], at)
     }
 
-    pub fn find(&self, from: u32, to: u32) -> Option<usize>
+    pub(crate) fn find(&self, from: u32, to: u32) -> Option<usize>
         requires { ⌜ now self .count ≤ length (now (now self .links)) ⌝ }
         ensures { λ r. ⌜ Located (Joins from to) (records (now (self .entry))) r ⌝ }
     {
@@ -57,7 +57,7 @@ impl<'a, L: Copy> Store<'a, L> {
     }
 
     // The records after the one at `at` move up by one place.
-    pub fn remove(&mut self, at: usize)
+    pub(crate) fn remove(&mut self, at: usize)
         requires room { ⌜ now self .count ≤ length (now (now self .links)) ⌝ }
         requires stands { ⌜ at < now self .count ⌝ }
         ensures links { λ _. ⌜ now (now (self .exit) .links) ≡ removed (records (now (self .entry))) at ++ drop (now (self .entry) .count - 1) (now (now (self .entry) .links)) ⌝ }
@@ -70,7 +70,7 @@ impl<'a, L: Copy> Store<'a, L> {
         self.count = count - 1;
     }
 
-    pub fn put(&mut self, link: Link<L>)
+    pub(crate) fn put(&mut self, link: Link<L>)
         requires { ⌜ now self .count < length (now (now self .links)) ⌝ }
         ensures links { λ _. ⌜ now (now (self .exit) .links) ≡ set (now (now (self .entry) .links)) (now (self .entry) .count) link ⌝ }
         ensures count { λ _. ⌜ now (self .exit) .count ≡ now (self .entry) .count + 1 ⌝ }

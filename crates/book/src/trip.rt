@@ -23,7 +23,7 @@ pub struct Leg<T> {
     pub wanted: T,
 }
 
-pub fn place_of(step: Step) -> usize
+pub(crate) fn place_of(step: Step) -> usize
     ensures { λ r. ⌜ r ≡ place step ⌝ }
 {
     match step {
@@ -32,7 +32,7 @@ pub fn place_of(step: Step) -> usize
     }
 }
 
-pub fn read_step(word: u32, count: usize) -> Option<Step>
+pub(crate) fn read_step(word: u32, count: usize) -> Option<Step>
     requires { ⌜ count ≤ 8192 ⌝ }
     ensures { λ r. ⌜ Named count word r ⌝ }
 {
@@ -53,7 +53,7 @@ pub fn read_step(word: u32, count: usize) -> Option<Step>
     Some(Step::Forward(p))
 }
 
-pub fn pass<K: Kind>(step: Step, link: Link<K::Latency>) -> Leg<K::Total>
+pub(crate) fn pass<K: Kind>(step: Step, link: Link<K::Latency>) -> Leg<K::Total>
     ensures { λ r. ⌜ LegOf (K·Kind .meaning) step link r ⌝ }
 {
     let m = K::of(&link.measured);

@@ -43,6 +43,7 @@ fn main(rt: LibcRuntime) -> Result<(), AnyError> {
         Ok(bytes) => bytes,
         Err(Full(bytes)) => bytes,
     };
-    rt.stdout().write_all(report.get(0..written).unwrap_or(b"no report\n"))?;
+    rt.stdout()
+        .write_all(report.get(0..written).unwrap_or(b"no report\n"))?;
     Ok(())
 }

@@ -5,8 +5,6 @@ ghost use Rattle.book.specs.Memory.{stateOf};
 ghost use Rattle.report.specs.Words.{wordsOf};
 ghost use Rattle.report.specs.Entries.{link, walk, itemOf, width};
 ghost use Rattle.report.specs.Doing.{Did, Made, Lent, lentOf};
-use book::Book;
-use book::Link;
 use crate::fault::CallFault;
 use crate::fault::CallFaultFromLatency;
 use crate::fault::CallFaultFromRefusal;
@@ -15,6 +13,8 @@ use crate::fault::Good;
 use crate::fault::LatencyFault;
 use crate::file::Entry;
 use crate::file::fill;
+use book::Book;
+use book::Link;
 use kind::Kind;
 
 // The latencies of a LINK; of two bad numbers the measured one is told.
@@ -64,7 +64,7 @@ fn do_walk<K: Kind>(book: &Book<K>, bytes: &[u8]) -> Result<Good<K::Total>, Call
 }
 
 // Does a call of a file on the book.
-pub fn perform<K: Kind>(
+pub(crate) fn perform<K: Kind>(
     book: &mut Book<K>,
     e: Entry<'_>,
     totals: &mut [K::Total],

@@ -1,9 +1,9 @@
 ghost use mathlib.Core.Path.{_≡_};
 ghost use Rattle.report.specs.Faults.{faultNumber};
 ghost use Rattle.report.specs.declared.fault.CallFault.the-variants.{Latency as OfLatency, Book as OfBook};
+use crate::file::FileFault;
 use book::Refused;
 use calls::Refusal;
-use crate::file::FileFault;
 
 // Which number of a LINK makes no latency.
 #[derive(Clone, Copy)]

@@ -91,7 +91,7 @@ impl FileKind {
 }
 
 // The first word, most significant byte first, and the bytes after it.
-pub fn first_word(bytes: &[u8]) -> Option<(u32, &[u8])>
+pub(crate) fn first_word(bytes: &[u8]) -> Option<(u32, &[u8])>
     ensures { λ r. ⌜ BySome r (wordsOf (now (bytes .entry)) ≡ []) (λ x. (wordsOf (now (bytes .entry)) ≡ x .0 ∷ wordsOf (now (x .1))) × (length (now (x .1)) + 4 ≤ length (now (bytes .entry)))) ⌝ }
 {
     let [a, b, c, d, rest @ ..] = bytes else {
@@ -101,7 +101,7 @@ pub fn first_word(bytes: &[u8]) -> Option<(u32, &[u8])>
 }
 
 // Puts the words of the bytes into the row, and says how many.
-pub fn fill(row: &mut [u32], bytes: &[u8]) -> usize
+pub(crate) fn fill(row: &mut [u32], bytes: &[u8]) -> usize
     requires { ⌜ length (wordsOf (now bytes)) ≤ length (now row) ⌝ }
     ensures bound { λ r. ⌜ r ≤ length (now (row .exit)) ⌝ }
     ensures words { λ r. ⌜ take r (now (row .exit)) ≡ wordsOf (now (bytes .entry)) ⌝ }
@@ -121,7 +121,11 @@ fn latency_number(w: u32) -> i32
     ensures { λ r. ⌜ r ≡ signed28 w ⌝ }
 {
     let low = (w % 0x1000_0000) as i32;
-    if low < 0x800_0000 { low } else { low - 0x1000_0000 }
+    if low < 0x800_0000 {
+        low
+    } else {
+        low - 0x1000_0000
+    }
 }
 
 fn link_entry(place: u32, w: u32, bytes: &[u8]) -> Result<Option<Entry<'_>>, FileFault>
@@ -164,7 +168,7 @@ fn walk_entry(place: u32, n: u32, bytes: &[u8]) -> Result<Option<Entry<'_>>, Fil
 }
 
 // The call that begins with the first of the bytes, which is word `place` of the file.
-pub fn entry_at(place: u32, bytes: &[u8]) -> Result<Option<Entry<'_>>, FileFault>
+pub(crate) fn entry_at(place: u32, bytes: &[u8]) -> Result<Option<Entry<'_>>, FileFault>
     requires { ⌜ place ≤ 65536 ⌝ }
     requires { ⌜ length (now bytes) ≤ 65536 ⌝ }
     ensures { λ r. ⌜ foundOf r ≡ entryOf place (wordsOf (now (bytes .entry))) ⌝ }
@@ -184,7 +188,7 @@ pub fn entry_at(place: u32, bytes: &[u8]) -> Result<Option<Entry<'_>>, FileFault
 }
 
 // What the bytes of a whole file say first, where its head has to name the kind.
-pub fn opened(kind: FileKind, bytes: &[u8]) -> Result<Option<Entry<'_>>, FileFault>
+pub(crate) fn opened(kind: FileKind, bytes: &[u8]) -> Result<Option<Entry<'_>>, FileFault>
     ensures { λ r. ⌜ foundOf r ≡ opening kind (now (bytes .entry)) ⌝ }
 {
     if bytes.len() > MAX_FILE {
@@ -213,7 +217,7 @@ fn words_of(e: Entry<'_>) -> usize
 }
 
 // How many words a call takes from the file: the first brings the head along.
-pub fn words_taken(read: u32, e: Entry<'_>) -> usize
+pub(crate) fn words_taken(read: u32, e: Entry<'_>) -> usize
     ensures { λ r. ⌜ r ≡ taken read (itemOf (e .entry)) ⌝ }
 {
     let own = words_of(e);

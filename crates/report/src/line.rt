@@ -9,16 +9,16 @@ ghost use Rattle.calls.specs.Refusals.{numberOf};
 ghost use Rattle.report.specs.Entries.{itemOf};
 ghost use Rattle.report.specs.Doing.{outcomeOf, Backed, Room};
 ghost use Rattle.report.specs.Lines.{hexes, pair, asked, told, lineOf, faultLine};
-use book::Refused;
 use crate::fault::CallFault;
 use crate::fault::Good;
 use crate::file::Entry;
 use crate::file::FileFault;
+use book::Refused;
 use kind::Kind;
 use text::Text;
 
 // Every `put_` function writes from the place `at` and says where it ended.
-pub fn put_text(row: &mut [u8], at: usize, text: &[u8]) -> usize
+pub(crate) fn put_text(row: &mut [u8], at: usize, text: &[u8]) -> usize
     requires { ⌜ at + length (now text) ≤ length (now row) ⌝ }
     ensures bound { λ r. ⌜ r ≡ at + length (now (text .entry)) ⌝ }
     ensures wrote { λ r. ⌜ Wrote (now (row .entry)) at (now (text .entry)) (now (row .exit)) r ⌝ }
@@ -144,7 +144,7 @@ fn put_told<K: Kind>(
 }
 
 // Writes the line of a call and its reply to the start of the row.
-pub fn show<K: Kind>(
+pub(crate) fn show<K: Kind>(
     row: &mut [u8],
     e: Entry<'_>,
     reply: Result<Good<K::Total>, CallFault>,
@@ -161,7 +161,7 @@ pub fn show<K: Kind>(
 }
 
 // Writes the line of a fault of the file.
-pub fn show_fault(row: &mut [u8], f: FileFault) -> usize
+pub(crate) fn show_fault(row: &mut [u8], f: FileFault) -> usize
     requires { ⌜ 32768 ≤ length (now row) ⌝ }
     ensures bound { λ r. ⌜ r ≤ 32768 ⌝ }
     ensures wrote { λ r. ⌜ Wrote (now (row .entry)) 0 (faultLine f) (now (row .exit)) r ⌝ }

@@ -22,7 +22,7 @@ pub struct Reader<'f> {
 }
 
 impl<'f> Reader<'f> {
-    pub fn new(kind: FileKind, file: &'f [u8]) -> Reader<'f>
+    pub(crate) fn new(kind: FileKind, file: &'f [u8]) -> Reader<'f>
         ensures { λ r. ⌜ readingOf (r .at) ≡ unread kind (now (file .entry)) ⌝ }
     {
         Reader {
@@ -35,7 +35,7 @@ impl<'f> Reader<'f> {
         }
     }
 
-    pub fn peek(&self) -> Result<Option<Entry<'f>>, FileFault>
+    pub(crate) fn peek(&self) -> Result<Option<Entry<'f>>, FileFault>
         ensures { λ r. ⌜ foundOf r ≡ ahead (readingOf (now (self .entry) .at)) ⌝ }
     {
         if self.at.ended {
@@ -48,20 +48,24 @@ impl<'f> Reader<'f> {
     }
 
     // The number of the next call's first word.
-    pub fn first_word(&self) -> u32
+    pub(crate) fn first_word(&self) -> u32
         ensures value { λ r. ⌜ r ≡ firstWord (readingOf (now (self .entry) .at)) ⌝ }
         ensures small { λ r. ⌜ r ≤ 65536 ⌝ }
     {
-        if self.at.read == 0 { 2 } else { self.at.read + 1 }
+        if self.at.read == 0 {
+            2
+        } else {
+            self.at.read + 1
+        }
     }
 
-    pub fn shut(&mut self)
+    pub(crate) fn shut(&mut self)
         ensures { λ _. ⌜ readingOf (now (self .exit) .at) ≡ shut (readingOf (now (self .entry) .at)) ⌝ }
     {
         self.at.ended = true;
     }
 
-    pub fn pass(&mut self, e: Entry<'_>)
+    pub(crate) fn pass(&mut self, e: Entry<'_>)
         requires { ⌜ ahead (readingOf (now self .at)) ≡ Good (Found (itemOf e)) ⌝ }
         ensures { λ _. ⌜ readingOf (now (self .exit) .at) ≡ past (readingOf (now (self .entry) .at)) (itemOf (e .entry)) ⌝ }
     {

@@ -9,7 +9,6 @@ ghost use Rattle.report.specs.Reading.{readingOf, unread, ahead, firstWord};
 ghost use Rattle.report.specs.Doing.{Lent, lentOf};
 ghost use Rattle.report.specs.Faults.{replyFault};
 ghost use Rattle.report.specs.History.{Step, Next};
-use book::Book;
 use crate::doing::perform;
 use crate::fault::CallFault;
 use crate::fault::Fault;
@@ -22,6 +21,7 @@ use crate::file::FileKind;
 use crate::line::show;
 use crate::line::show_fault;
 use crate::reader::Reader;
+use book::Book;
 use kind::Kind;
 
 // A line row has to have so many bytes.

@@ -2,6 +2,7 @@ pub mod Wiring
 pub mod Climbs
 pub mod Hanging
 pub mod Labels
+pub mod Groups
 pub mod Joining
 pub mod Ways
 pub mod Gaps

@@ -10,7 +10,7 @@ use crate::link::Link;
 use kind::Kind;
 
 // Whether the offsets carry the link.
-pub fn carried<K: Kind>(link: Link<K::Latency>, row: &[K::Total], n: usize) -> bool
+pub(crate) fn carried<K: Kind>(link: Link<K::Latency>, row: &[K::Total], n: usize) -> bool
     requires small { ⌜ n ≤ 1024 ⌝ }
     requires size { ⌜ n ≤ length (now row) ⌝ }
     requires from { ⌜ On n (link .from) ⌝ }
@@ -25,7 +25,7 @@ pub fn carried<K: Kind>(link: Link<K::Latency>, row: &[K::Total], n: usize) -> b
 }
 
 // Whether the offsets carry every link.
-pub fn all_carried<K: Kind>(links: &[Link<K::Latency>], row: &[K::Total], n: usize) -> bool
+pub(crate) fn all_carried<K: Kind>(links: &[Link<K::Latency>], row: &[K::Total], n: usize) -> bool
     requires small { ⌜ n ≤ 1024 ⌝ }
     requires size { ⌜ n ≤ length (now row) ⌝ }
     requires sound { ⌜ Sound n (now links) ⌝ }

@@ -4,7 +4,8 @@ ghost use Prim.Native.Nat.{ℕ, suc, _+_, _-_, _≤_, _<_};
 ghost use lib.ListN.{length, getD};
 ghost use Rattle.std.specs.declared.option.Option.the-variants.{None};
 ghost use Rattle.network.specs.Graph.{place, start, end, Connected, Upto};
-ghost use Rattle.search.specs.Joined.{Joined};
+ghost use Rattle.search.specs.Joined.{label, Joined};
+ghost use Rattle.search.specs.Grouped.{Rising, Leader, Found, under, Grouped};
 ghost use Rattle.network.specs.Climb.{Forest};
 ghost use Rattle.search.specs.Parents.{parents};
 ghost use Rattle.search.specs.Records.{graphOf, On, Sound};
@@ -15,7 +16,7 @@ use crate::steps::word_of;
 use network::Step;
 
 // Makes switch i the root of its tree.
-pub fn reroot<L: Copy>(up: &mut [u32], links: &[Link<L>], count: usize, i: u32)
+pub(crate) fn reroot<L: Copy>(up: &mut [u32], links: &[Link<L>], count: usize, i: u32)
     requires forest { ⌜ Forest (graphOf (now links)) count (parents (now up)) ⌝ }
     requires sound { ⌜ Sound (length (now up)) (now links) ⌝ }
     requires count { ⌜ count ≤ length (now links) ⌝ }
@@ -49,81 +50,111 @@ fn hang<L: Copy>(up: &mut [u32], links: &[Link<L>], k: usize, s: Step)
     up[i as usize - 1] = word_of(s);
 }
 
-// Whoever has the label `old` has the label `new`.
-fn relabel(labels: &mut [u32], old: u32, new: u32)
-    ensures { λ _. ⌜ ((v : ℕ) → v < length (now (labels .entry)) → (getD (now (labels .entry)) v 0 ≡ old → getD (now (labels .exit)) v 0 ≡ new) × ((getD (now (labels .entry)) v 0 ≡ old → ⊥) → getD (now (labels .exit)) v 0 ≡ getD (now (labels .entry)) v 0)) ⌝ }
+// The leader of v's group. The ranks only show that the pointers lead to an end.
+fn root(labels: &[u32], ranks: &[u32], v: u32) -> u32
+    requires rising { ⌜ Rising 8192 (length (now labels)) (label (now labels)) (label (now ranks)) ⌝ }
+    requires inside { ⌜ On (length (now labels)) v ⌝ }
+    ensures { λ r. ⌜ Found (length (now (labels .entry))) (label (now (labels .entry))) (label (now (ranks .entry))) v r ⌝ }
 {
-    for i in 0..labels.len() {
-        if labels[i] == old {
-            labels[i] = new;
-        }
+    let mut x = v;
+    while labels[x as usize - 1] != x {
+        x = labels[x as usize - 1];
     }
+    x
 }
 
-// Whether fewer switches have the label a than b. The forest is right whatever this answers, and soon built where it is right.
-fn is_smaller(labels: &[u32], a: u32, b: u32) -> bool {
-    let mut in_a: usize = 0;
-    let mut in_b: usize = 0;
-    for i in 0..labels.len() {
-        if labels[i] == a {
-            in_a += 1;
-        }
-        if labels[i] == b {
-            in_b += 1;
-        }
+// Puts the group that b leads under a, the leader of another whose rank is no lower. A rank grows only where the two
+// are equal, so that it stays below the number of times that its group can have doubled, and pointers lead to an end soon.
+fn unite(labels: &mut [u32], ranks: &mut [u32], a: u32, b: u32)
+    requires size { ⌜ length (now labels) ≤ length (now ranks) ⌝ }
+    requires inside { ⌜ On (length (now labels)) a × On (length (now labels)) b ⌝ }
+    requires top { ⌜ (label (now labels) a ≡ a) × (label (now labels) b ≡ b) ⌝ }
+    requires apart { ⌜ (a ≡ b → ⊥) ⌝ }
+    requires higher { ⌜ label (now ranks) b ≤ label (now ranks) a ⌝ }
+    requires low { ⌜ label (now ranks) a ≤ 8192 ⌝ }
+    ensures rising { λ _. ⌜ ((k : ℕ) → Rising k (length (now (labels .entry))) (label (now (labels .entry))) (label (now (ranks .entry))) → Rising (k + 1) (length (now (labels .entry))) (label (now (labels .exit))) (label (now (ranks .exit)))) ⌝ }
+    ensures leads { λ _. ⌜ ((l : ℕ → ℕ) → Leader (length (now (labels .entry))) (label (now (labels .entry))) l → Leader (length (now (labels .entry))) (label (now (labels .exit))) (under l b a)) ⌝ }
+{
+    if ranks[a as usize - 1] == ranks[b as usize - 1] {
+        ranks[a as usize - 1] += 1;
     }
-    in_a < in_b
+    labels[b as usize - 1] = a;
 }
 
-// One more link: a joining link hangs the smaller tree under the other.
-fn join_next<L: Copy>(labels: &mut [u32], up: &mut [u32], links: &[Link<L>], k: usize)
-    requires joined { ⌜ Joined (graphOf (now links)) k (length (now up)) (now labels) (now up) ⌝ }
-    requires sound { ⌜ Sound (length (now up)) (now links) ⌝ }
+// One more link: a joining link puts the group of the lower rank under the other, and hangs its tree there.
+fn join_next<L: Copy>(
+    labels: &mut [u32],
+    ranks: &mut [u32],
+    up: &mut [u32],
+    links: &[Link<L>],
+    k: usize,
+)
+    requires grouped { ⌜ Grouped (graphOf (now links)) k (length (now labels)) (now labels) (now ranks) (now up) ⌝ }
+    requires sound { ⌜ Sound (length (now labels)) (now links) ⌝ }
     requires same { ⌜ length (now labels) ≡ length (now up) ⌝ }
+    requires size { ⌜ length (now labels) ≤ length (now ranks) ⌝ }
     requires room { ⌜ k < length (now links) ⌝ }
     requires few { ⌜ k < 8192 ⌝ }
-    ensures { λ _. ⌜ Joined (graphOf (now (links .entry))) (k + 1) (length (now (up .entry))) (now (labels .exit)) (now (up .exit)) ⌝ }
+    ensures { λ _. ⌜ Grouped (graphOf (now (links .entry))) (k + 1) (length (now (labels .entry))) (now (labels .exit)) (now (ranks .exit)) (now (up .exit)) ⌝ }
 {
     let i = far_end(Step::Backward(k + 1), links);
     let j = far_end(Step::Forward(k + 1), links);
-    let a = labels[i as usize - 1];
-    let b = labels[j as usize - 1];
+    let a = root(labels, ranks, i);
+    let b = root(labels, ranks, j);
     if a == b {
         return;
     }
-    if is_smaller(labels, a, b) {
-        relabel(labels, a, b);
+    if ranks[a as usize - 1] < ranks[b as usize - 1] {
+        unite(labels, ranks, b, a);
         hang(up, links, k, Step::Forward(k + 1));
     } else {
-        relabel(labels, b, a);
+        unite(labels, ranks, a, b);
         hang(up, links, k, Step::Backward(k + 1));
     }
 }
 
 // Every switch alone.
-fn scatter(labels: &mut [u32], up: &mut [u32])
+fn scatter(labels: &mut [u32], ranks: &mut [u32], up: &mut [u32])
     requires few { ⌜ length (now labels) ≤ 1024 ⌝ }
     ensures labels { λ _. ⌜ ((v : ℕ) → v < length (now (labels .entry)) → getD (now (labels .exit)) v 0 ≡ v + 1) ⌝ }
+    ensures ranks { λ _. ⌜ ((v : ℕ) → getD (now (ranks .exit)) v 0 ≡ 0) ⌝ }
     ensures up { λ _. ⌜ ((v : ℕ) → getD (now (up .exit)) v 0 ≡ 0) ⌝ }
 {
     for i in 0..labels.len() {
         labels[i] = i as u32 + 1;
     }
-    for j in 0..up.len() {
-        up[j] = 0;
+    ranks.fill(0);
+    up.fill(0);
+}
+
+// Points every switch to its leader.
+fn flatten(labels: &mut [u32], ranks: &[u32])
+    requires few { ⌜ length (now labels) ≤ 1024 ⌝ }
+    requires rising { ⌜ Rising 8192 (length (now labels)) (label (now labels)) (label (now ranks)) ⌝ }
+    ensures { λ _. ⌜ ((l : ℕ → ℕ) → Leader (length (now (labels .entry))) (label (now (labels .entry))) l → (v : ℕ) → On (length (now (labels .entry))) v → label (now (labels .exit)) v ≡ l v) ⌝ }
+{
+    for i in 0..labels.len() {
+        labels[i] = root(labels, ranks, i as u32 + 1);
     }
 }
 
-// The labels and the forest of all the links.
-pub fn join<L: Copy>(labels: &mut [u32], up: &mut [u32], links: &[Link<L>])
+// The labels and the forest of all the links; the ranks are for its own use.
+pub(crate) fn join<L: Copy>(
+    labels: &mut [u32],
+    ranks: &mut [u32],
+    up: &mut [u32],
+    links: &[Link<L>],
+)
     requires sound { ⌜ Sound (length (now up)) (now links) ⌝ }
     requires same { ⌜ length (now labels) ≡ length (now up) ⌝ }
+    requires size { ⌜ length (now labels) ≤ length (now ranks) ⌝ }
     requires small { ⌜ length (now up) ≤ 1024 ⌝ }
     requires few { ⌜ length (now links) ≤ 8192 ⌝ }
     ensures { λ _. ⌜ Joined (graphOf (now (links .entry))) (length (now (links .entry))) (length (now (up .entry))) (now (labels .exit)) (now (up .exit)) ⌝ }
 {
-    scatter(labels, up);
+    scatter(labels, ranks, up);
     for k in 0..links.len() {
-        join_next(labels, up, links, k);
+        join_next(labels, ranks, up, links, k);
     }
+    flatten(labels, ranks);
 }

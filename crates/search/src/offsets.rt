@@ -164,7 +164,7 @@ fn settle<K: Kind>(
 }
 
 // The offset of every switch, from its root.
-pub fn settle_all<K: Kind>(
+pub(crate) fn settle_all<K: Kind>(
     up: &[u32],
     links: &[Link<K::Latency>],
     count: usize,

@@ -12,7 +12,7 @@ use crate::steps::step_of;
 use crate::steps::word_of;
 
 // Writes the steps of the way up from v, and says how many they are.
-pub fn climb<L: Copy>(
+pub(crate) fn climb<L: Copy>(
     up: &[u32],
     links: &[Link<L>],
     count: usize,

@@ -9,7 +9,7 @@ use crate::link::Link;
 use network::Step;
 
 // The step that a word stands for.
-pub fn step_of(w: u32) -> Option<Step>
+pub(crate) fn step_of(w: u32) -> Option<Step>
     ensures { λ r. ⌜ r ≡ decode w ⌝ }
 {
     if w < 0xA000_0000 {
@@ -21,7 +21,7 @@ pub fn step_of(w: u32) -> Option<Step>
     Some(Step::Backward((w - 0xB000_0000) as usize))
 }
 
-pub fn word_of(s: Step) -> u32
+pub(crate) fn word_of(s: Step) -> u32
     requires { ⌜ place s ≤ 8192 ⌝ }
     ensures word { λ r. ⌜ r ≡ word s ⌝ }
     ensures back { λ r. ⌜ decode r ≡ Some s ⌝ }
@@ -33,7 +33,7 @@ pub fn word_of(s: Step) -> u32
 }
 
 // Where the step ends.
-pub fn far_end<L: Copy>(s: Step, links: &[Link<L>]) -> u32
+pub(crate) fn far_end<L: Copy>(s: Step, links: &[Link<L>]) -> u32
     requires low { ⌜ 1 ≤ place s ⌝ }
     requires high { ⌜ place s ≤ length (now links) ⌝ }
     ensures { λ r. ⌜ r ≡ end (graphOf (now (links .entry))) s ⌝ }

@@ -19,7 +19,7 @@ use crate::path::climb;
 use kind::Kind;
 
 // The labels, the forest and the offsets of the links: whether the links fit.
-pub fn survey<K: Kind>(
+pub(crate) fn survey<K: Kind>(
     links: &[Link<K::Latency>],
     labels: &mut [u32],
     up: &mut [u32],
@@ -37,7 +37,7 @@ pub fn survey<K: Kind>(
     ensures yes { λ r. ⌜ (r ≡ true → Carries (K·Kind .meaning .quantities) (offset (K·Kind .meaning) (now (row .exit))) (map (linkOf (K·Kind .meaning)) (now (links .entry)))) ⌝ }
     ensures no { λ r. ⌜ (Fits (K·Kind .meaning .quantities) (map (linkOf (K·Kind .meaning)) (now (links .entry))) → r ≡ true) ⌝ }
 {
-    join(labels, up, links);
+    join(labels, stack, up, links);
     settle_all::<K>(up, links, links.len(), stack, marks, row);
     all_carried::<K>(links, row, up.len())
 }

@@ -8,4 +8,5 @@ use Rattle.report.proofs.line.put_refused.Needs as need
 pub returns : need.returns
 returns c = record {
   bound = omega (arith, length-take-le (c .args .x .shown) (c .args .steps .now) (c .pre .1 .1));
-  wrote = rw (← c .number .ensures) (then (c .put-text-a .ensures .wrote) (then (c .put-u32-b .ensures .wrote) (c .put-steps .ensures .wrote))) }
+  wrote = rw (← c .number .ensures) (then (c .put-text-a .ensures .wrote) (then (c .put-u32-b .ensures .wrote) (c .put-steps .ensures .wrote)));
+}

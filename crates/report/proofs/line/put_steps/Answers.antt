@@ -14,11 +14,13 @@ pub loop-w-holds : need.loop-w-holds
 loop-w-holds c = (omega arith, none _ _)
 
 pub loop-w-again : need.loop-w-again
-loop-w-again c =
-    (omega arith
-    , rw (hexes-more (c .args .steps .now) (c .loop-w .w-index) (omega arith)) (then (c .loop-w .inv .1) (c .put-word-end .ensures .wrote)))
+loop-w-again c = (
+  omega arith,
+  rw (hexes-more (c .args .steps .now) (c .loop-w .w-index) (omega arith)) (then (c .loop-w .inv .1) (c .put-word-end .ensures .wrote)),
+)
 
 pub returns : need.returns
 returns c = record {
   bound = omega arith;
-  wrote = subst (λ (ws : List ℕ). Wrote (c .args .row .now) (c .args .at) (hexes ws) (c .loop-w .row) (c .loop-w .end)) (take-all (c .loop-w .w-index) (c .args .steps .now) (omega arith)) (c .loop-w .inv .1) }
+  wrote = subst (λ (ws : List ℕ). Wrote (c .args .row .now) (c .args .at) (hexes ws) (c .loop-w .row) (c .loop-w .end)) (take-all (c .loop-w .w-index) (c .args .steps .now) (omega arith)) (c .loop-w .inv .1);
+}

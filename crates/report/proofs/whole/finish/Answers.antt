@@ -29,8 +29,7 @@ loop-l-less g c = let e = c .in-Some .ensures tt in step-less (g .K·Kind .meani
 
 pub loop-l-again : need.loop-l-again
 loop-l-again g c =
-    let e = c .in-Some .ensures tt in
-    (
+    let e = c .in-Some .ensures tt in (
       omega (arith, length-take-le (c .in-Some .l .bytes) (c .line .last .row) (step-within (g .K·Kind .meaning) _ _ _ _ _ _ _ _ _ (e .1))),
       λ kind capacity text h. goes (g .K·Kind .meaning) kind capacity _ text _ _ _ _ _ _ _ _ _ _ _ _ (same-sizes _ _ _ _ _ _ (c .loop-l .kept .totals) (c .loop-l .kept .numbers) (c .loop-l .kept .steps)) _ _ _ _ (c .loop-l .inv .1 kind capacity text h) (e .1) (c .put-text-at .ensures .wrote),
     )

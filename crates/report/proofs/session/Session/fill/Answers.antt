@@ -52,8 +52,7 @@ loop-report-again g c =
     let b = c .loop-report .report in
     let row′ = c .line .last .row in
     let m = mid-len at (length b) b (omega arith) in
-    let n = same-len-mid at (length b - at) b row′ k in
-    (
+    let n = same-len-mid at (length b - at) b row′ k in (
       omega (arith, c .loop-report .inv .0),
       λ kind capacity text h f x.
           goes (g .K·Kind .meaning) kind capacity _ text h f _ _ _ _ _ _ _ _ _ _ (same-sizes _ _ _ _ _ _ (c .loop-report .kept .totals) (c .loop-report .kept .numbers) (c .loop-report .kept .steps)) _ _ _ _

@@ -1,0 +1,5 @@
+mod Rows
+mod Course
+mod Listed
+mod Chained
+mod Returned
