@@ -11,14 +11,15 @@ use Rattle.std.specs.declared.option.Option.the-variants.{Some, None}
 use Rattle.std.specs.declared.result.Result.{Result}
 use Rattle.std.specs.declared.result.Result.the-variants.{Ok, Err}
 use Rattle.kind.specs.Group.{Quantities}
-use Rattle.calls.specs.declared.Refusal.the-variants.{Contradicts}
+use Rattle.calls.specs.declared.Refusal.the-variants.{Contradicts, NegativeLoop}
 use Rattle.calls.specs.State.{refused}
 use Rattle.book.specs.declared.store.Refused.{Refused}
-use Rattle.book.specs.Memory.{shown, shownAnswer}
+use Rattle.kind.specs.Meaning.{Meaning}
+use Rattle.book.specs.Memory.{shown, shownAnswer, shownOffsets}
 use Rattle.network.specs.declared.Step.{Step}
 use Rattle.network.specs.declared.Step.the-variants.{Forward, Backward}
 use Rattle.network.specs.Graph.{Graph, place, end, Walk}
-use Rattle.network.specs.Offsets.{Link, graph}
+use Rattle.network.specs.Offsets.{Link, graph, Positions}
 use Rattle.network.specs.Theorems.{Linked, Joins}
 use Rattle.network.specs.Words.{word, decode, one, stepsOf}
 use Rattle.network.proofs.Graph.{near-dec}
@@ -35,7 +36,7 @@ decode-word (Backward p) h =
     ∙ ap (λ b. cond b (Some (Forward (0xB000_0000 + p - 0xA000_0000))) (Some (Backward (0xB000_0000 + p - 0xB000_0000)))) (le-ltb (0xB000_0000 + p) 0xB000_0000 (omega arith))
     ∙ ap (λ q. Some (Backward q)) (omega arith)
 
-read-back : (g : Graph) (A : ℕ → Type 0) → ((p : ℕ) → A p → p ≤ 8192) → (i : ℕ) (ss : List Step) (j : ℕ) → Walk g A i ss j → stepsOf (map word ss) ≡ ss
+pub read-back : (g : Graph) (A : ℕ → Type 0) → ((p : ℕ) → A p → p ≤ 8192) → (i : ℕ) (ss : List Step) (j : ℕ) → Walk g A i ss j → stepsOf (map word ss) ≡ ss
 read-back g A f i [] j w = refl
 read-back g A f i (s ∷ ss) j (e, a, w) = ap (λ o. one o ++ stepsOf (map word ss)) (decode-word s (f (place s) a)) ∙ ap (λ ts. s ∷ ts) (read-back g A f (end g s) ss j w)
 
@@ -55,3 +56,16 @@ pub shown-words : {Q : Type 0} (r : Result (Unit {0}) Refused) (row : List ℕ) 
     → (ss : List Step) → shownAnswer {Q = Q} r row ≡ refused Contradicts ss → take (shown r) row ≡ map word ss
 shown-words (Ok u) row w ss e = let z : _≡_ {A = ℕ} 0 1 = cc in absurd (omega arith)
 shown-words (Err x) row w ss e = let q : stepsOf (take (x .shown) row) ≡ ss = cc in w ∙ ap (map word) q
+
+pub shown-loop : {L T : Type 0} (M : Meaning L T) (r : Result (Unit {0}) Refused) (ts : List T) (row : List ℕ) → take (shown r) row ≡ map word (stepsOf (take (shown r) row))
+    → (ss : List Step) → shownOffsets M r ts row ≡ refused NegativeLoop ss → take (shown r) row ≡ map word ss
+shown-loop M (Ok u) ts row w ss e = let z : _≡_ {A = ℕ} 0 1 = cc in absurd (omega arith)
+shown-loop M (Err x) ts row w ss e = let q : stepsOf (take (x .shown) row) ≡ ss = cc in w ∙ ap (map word) q
+
+-- the steps of a walk over standing links, written as words, are told by the row
+module _ (K : Quantities) (links : List (Link (K .Q))) (v u : ℕ) (row row′ : List ℕ) (m : ℕ) (ss : List Step) (few : length links ≤ 8192) (w : Walk (graph K links) (Positions K links) v ss u) (x : Written row row′ m ss) where
+  pub walk-told : stepsOf (take m row′) ≡ ss
+  walk-told = ap stepsOf (x .front) ∙ read-back (graph K links) (Positions K links) (λ p h. let a = h .1 in omega arith) v ss u w
+
+  pub walk-words : take m row′ ≡ map word (stepsOf (take m row′))
+  walk-words = x .front ∙ ap (map word) (sym walk-told)

@@ -1,8 +1,8 @@
 -- The book in memory: what it holds, what its calls answer, and what its records keep.
 use mathlib.Core.Path.{_≡_}
-use mathlib.Core.Bool.{true, false}
+use mathlib.Core.Logic.{_⊎_}
 use mathlib.Core.List.{List, [], _∷_, map}
-use Prim.Native.Nat.{ℕ, min, _*_, _≤_, _<_}
+use Prim.Native.Nat.{ℕ, min, _-_, _*_, _≤_, _<_}
 use lib.ListN.{length, getD, set, take, drop}
 use Rattle.std.specs.declared.result.Result.{Result}
 use Rattle.std.specs.declared.result.Result.the-variants.{Ok, Err}
@@ -10,10 +10,11 @@ use Rattle.kind.specs.Meaning.{Meaning}
 use Rattle.network.specs.Offsets.{Fits}
 use Rattle.network.specs.Words.{word, stepsOf}
 use Rattle.search.specs.declared.link.Link.{Link as Record}
-use Rattle.search.specs.Records.{linkOf}
+use Rattle.search.specs.Records.{linkOf, On}
+use Rattle.search.specs.Settled.{offset}
 use Rattle.calls.specs.declared.Refusal.{Refusal}
-use Rattle.calls.specs.declared.Refusal.the-variants.{Contradicts}
-use Rattle.calls.specs.State.{State, Rows, Call, Answer, done, totals, refused}
+use Rattle.calls.specs.declared.Refusal.the-variants.{Contradicts, NegativeLoop, UnknownSwitch, ShortRow}
+use Rattle.calls.specs.State.{State, Rows, Call, Answer, done, total, totals, offsets, refused}
 use Rattle.calls.specs.Calls.{Right, Next, Goes, Ran}
 use Rattle.calls.specs.OneAnswer.{Same}
 use Rattle.book.specs.declared.store.Store.{Store}
@@ -42,6 +43,19 @@ pair M (Err e) = refused e []
 abbrev pub shownAnswer : {Q : Type 0} → Result (Unit {0}) Refused → List ℕ → Answer Q
 shownAnswer (Ok _) row = done
 shownAnswer (Err e) row = refused (e .refusal) (stepsOf (take (e .shown) row))
+
+-- the answer that is one total; offsets by the totals row; and the latter with a refusal that shows steps
+abbrev pub single : {L T : Type 0} (M : Meaning L T) → Result T Refusal → Answer (M .quantities .Q)
+single M (Ok t) = total (M .total t)
+single M (Err e) = refused e []
+
+abbrev pub rowAnswer : {L T : Type 0} (M : Meaning L T) → ℕ → Result (Unit {0}) Refusal → List T → Answer (M .quantities .Q)
+rowAnswer M n (Ok _) row = offsets (offset M (take n row))
+rowAnswer M n (Err e) row = refused e []
+
+abbrev pub shownOffsets : {L T : Type 0} (M : Meaning L T) → Result (Unit {0}) Refused → List T → List ℕ → Answer (M .quantities .Q)
+shownOffsets M (Ok _) row words = offsets (offset M row)
+shownOffsets M (Err e) row words = refused (e .refusal) (stepsOf (take (e .shown) words))
 
 abbrev pub shown : {X : Type 0} → Result X Refused → ℕ
 shown (Ok _) = 0
@@ -79,7 +93,7 @@ Entered (Err e) l s t = t .links .now ≡ s .links .now
 -- a refusal before the rows are used
 abbrev pub Early : {X : Type 0} → Result X Refused → Type 0
 Early (Ok _) = ⊥
-Early (Err e) = e .refusal ≡ Contradicts → ⊥
+Early (Err e) = (e .refusal ≡ Contradicts → ⊥) × (e .refusal ≡ NegativeLoop → ⊥)
 
 -- What a call with three rows leaves in them: all of it before it passes the check on the rows; after it all but the first 2 × n totals,
 -- the first 4 × n numbers and the shown step words, of which there are at most n.
@@ -91,6 +105,21 @@ pub record RowsLeft {X T : Type 0} (n : ℕ) (r : Result X Refused) (ts ts′ : 
   pub count : shown r ≤ n
   pub room : shown r ≤ length ss′
   pub words : take (shown r) ss′ ≡ map word (stepsOf (take (shown r) ss′))
+
+-- the same of a call that writes no steps
+abbrev pub Unused : {X : Type 0} → Result X Refusal → Type 0
+Unused (Ok _) = ⊥
+Unused (Err e) = (e ≡ UnknownSwitch) ⊎ (e ≡ ShortRow)
+
+pub record RowsUsed {X T : Type 0} (n : ℕ) (r : Result X Refusal) (ts ts′ : List T) (ns ns′ : List ℕ) : Type 0 where
+  pub early : Unused r → (ts′ ≡ ts) × (ns′ ≡ ns)
+  pub totals : drop (2 * n) ts′ ≡ drop (2 * n) ts
+  pub numbers : drop (4 * n) ns′ ≡ drop (4 * n) ns
+
+-- the first n totals of a row that a call shows are within reach
+abbrev pub Near : {X E L T : Type 0} (M : Meaning L T) → ℕ → Result X E → List T → Type 0
+Near {T} M n (Ok _) row = (v : ℕ) → On n v → (t : T) → M .within 16777216 (getD row (v - 1) t)
+Near M n (Err e) row = Unit {0}
 
 -- the invariants of a book
 abbrev pub Held : {L : Type 0} → Store L → Type 0

@@ -34,4 +34,11 @@ impl<'a, K: Kind> Book<'a, K> {
             },
         }
     }
+
+    // How many switches the book has.
+    pub fn switches(&self) -> u32
+        ensures { λ r. ⌜ r ≡ now (self .entry) .store .n ⌝ }
+    {
+        self.store.n
+    }
 }

@@ -1,6 +1,9 @@
 mod book;
 mod issue;
 mod link;
+mod offset;
+mod offsets;
+mod realise;
 mod size;
 mod store;
 mod strike;

@@ -19,7 +19,7 @@ use kind::Kind;
 use search::Link;
 use search::link_verdict;
 
-fn is_inside(n: u32, i: u32, j: u32) -> bool
+pub(crate) fn is_inside(n: u32, i: u32, j: u32) -> bool
     ensures yes { λ r. ⌜ (r ≡ true → Inside n (i ∷ j ∷ [])) ⌝ }
     ensures no { λ r. ⌜ (Inside n (i ∷ j ∷ []) → r ≡ true) ⌝ }
 {
@@ -27,7 +27,7 @@ fn is_inside(n: u32, i: u32, j: u32) -> bool
 }
 
 // Whether the rows have the places that a search over n switches needs.
-fn is_enough(n: usize, totals: usize, numbers: usize, steps: usize) -> bool
+pub(crate) fn is_enough(n: usize, totals: usize, numbers: usize, steps: usize) -> bool
     requires { ⌜ n ≤ 1024 ⌝ }
     ensures yes { λ r. ⌜ (r ≡ true → Enough n (record { totals = totals; numbers = numbers; steps = steps })) ⌝ }
     ensures no { λ r. ⌜ (Enough n (record { totals = totals; numbers = numbers; steps = steps }) → r ≡ true) ⌝ }

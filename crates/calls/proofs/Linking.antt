@@ -23,15 +23,15 @@ use Rattle.calls.specs.State.{State, Rows, Call, LINK, WALK, Answer, done, tot
 use Rattle.calls.specs.Standing.{Stands, Linked, Standing, plan, ReadAs, Back, measured, wanted}
 use Rattle.calls.specs.Calls.{checks, Right, yields, turned-down, Value, entered, walked, Next, unchanged, by-link, Ran, then}
 use Rattle.calls.specs.Verdicts.{Ready, LinkVerdict, ReadBack, ReadsBack}
-use Rattle.calls.proofs.Reading.{nowhere-not, elsewhere-not}
+use Rattle.calls.proofs.Reading.{nowhere-not, elsewhere-not, words-read}
 use Rattle.calls.proofs.Inversion.{was-refused}
 use Rattle.calls.proofs.Runs.{untorn}
 
-unless : (b : Bool) → (b ≡ true → ⊥) → b ≡ false
+pub unless : (b : Bool) → (b ≡ true → ⊥) → b ≡ false
 unless true h = absurd (h refl)
 unless false h = refl
 
-at-most : (a b : ℕ) → ((a ≤ b → ⊥) → ⊥) → a ≤ b
+pub at-most : (a b : ℕ) → ((a ≤ b → ⊥) → ⊥) → a ≤ b
 at-most a b h = go (decLe a b)
   where
     go : Dec (a ≤ b) → a ≤ b
@@ -113,10 +113,6 @@ module _ {L T : Type 0} (M : Meaning L T) (s : State (M .quantities .Q)) (l : Li
     equivalent = theory K (s .links ++ l ∷ []) .equivalent;
   }
 
-  words-read : (i : ℕ) (steps : List Step) (j : ℕ) → Walk (plan K s) (Joining (plan K s) (length (s .links))) i steps j → ReadAs K s (map word steps) i steps j
-  words-read i [] j w = w
-  words-read i (st ∷ ss) j (e, a, w) = ((refl, (a .0, a .1)), e, words-read (end (plan K s) st) ss j w)
-
   -- in a list of calls a contradiction comes only where standing links connect the two switches
   met : (h : List (Call (K .Q) × Answer (K .Q))) → Ran M h s → Apart → Linked K s (l .to) (l .from)
   met h ran x = go (near-dec (plan K s) (length (s .links)) (l .from) (l .to))
@@ -129,7 +125,7 @@ module _ {L T : Type 0} (M : Meaning L T) (s : State (M .quantities .Q)) (l : Li
       → ((steps : List Step) → a ≡ refused Contradicts steps → words ≡ map word steps) → ReadsBack M s l a words
   reads-back a words r few short told h ran steps e =
       let x = contradicted steps (when-refused Contradicts steps (subst (Right M s (LINK l rows)) e r)) in
-      let read = subst (λ ws. ReadAs K s ws (l .to) steps (l .from)) (sym (told steps e)) (words-read (l .to) steps (l .from) (x .2 .0 (met h ran (x .1)) .0)) in
+      let read = subst (λ ws. ReadAs K s ws (l .to) steps (l .from)) (sym (told steps e)) (words-read K s (Joining (plan K s) (length (s .links))) (λ p j. (j .0, j .1)) (l .to) steps (l .from) (x .2 .0 (met h ran (x .1)) .0)) in
       record {
         walk = read;
         answer = yields _ ((λ b. omega arith), (nowhere-not K s few words (l .to) steps (l .from) read, (elsewhere-not K s few words (l .to) steps (l .from) read, tt))) (walked words (l .to) (l .from) steps read);

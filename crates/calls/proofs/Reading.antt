@@ -1,12 +1,12 @@
 -- Words are read as steps in one way at most, so a walk stops at one place and for one reason.
 use mathlib.Core.Path.{_≡_, refl, sym, subst, ap, _∙_}
 use mathlib.Core.Logic.{_⊎_, inl, inr, ⊎-elim}
-use mathlib.Core.List.{List, [], _∷_, _++_}
+use mathlib.Core.List.{List, [], _∷_, _++_, map}
 use Prim.Native.Nat.{ℕ, zero, suc, _+_, _≤_, _<_}
 use native.Mathlib.Omega.{arith}
 use lib.ListN.{length}
 use Rattle.kind.specs.Group.{Quantities}
-use Rattle.network.specs.Graph.{place, start, end}
+use Rattle.network.specs.Graph.{place, start, end, Walk}
 use Rattle.network.specs.declared.Step.{Step}
 use Rattle.network.specs.declared.Step.the-variants.{Forward, Backward}
 use Rattle.calls.specs.State.{State}
@@ -93,3 +93,9 @@ module _ (K : Quantities) (s : State (K .Q)) (small : length (s .links) ≤ 8192
       (parts (t .front) (u .front) (t .fault) (u .fault) (t .rest) (u .rest) (sym (t .whole) ∙ u .whole)) where
         st : Step
         st = t .wrong .1 .0
+
+-- the words of a walk over standing links are read as its steps
+pub words-read : (K : Quantities) (s : State (K .Q)) (among : ℕ → Type 0) → ((p : ℕ) → among p → Standing K s p) → (i : ℕ) (steps : List Step) (j : ℕ)
+    → Walk (plan K s) among i steps j → ReadAs K s (map word steps) i steps j
+words-read K s among stands i [] j w = w
+words-read K s among stands i (st ∷ ss) j (e, a, w) = ((refl, stands (place st) a), e, words-read K s among stands (end (plan K s) st) ss j w)

@@ -7,8 +7,8 @@ use lib.ListN.{length, take, length-append}
 use lib.Seq.{take-append-le, take-all}
 use Rattle.std.proofs.shelf.Ways.{tells}
 use Rattle.report.specs.Words.{signed28, sort, body, first, second}
-use Rattle.report.specs.Entries.{Item, size, link, strike, issue, recall, walk, entryOf}
-use Rattle.report.specs.Coded.{kinded, Coded, of-size, of-link, of-strike, of-issue, of-recall, of-walk, ReadsBack}
+use Rattle.report.specs.Entries.{Item, size, link, strike, offset, all-offsets, realise, issue, recall, walk, entryOf}
+use Rattle.report.specs.Coded.{kinded, Coded, of-size, of-link, of-strike, of-offset, of-offsets, of-realise, of-issue, of-recall, of-walk, ReadsBack}
 
 pub reads-back : ReadsBack
 reads-back p _ _ rest (of-size n h) =
@@ -29,6 +29,13 @@ reads-back p _ _ rest (of-strike i j hi hj) =
     let d : first (kinded 6 (i * 2 ^ 14 + j)) ≡ i = omega arith in
     let e : second (kinded 6 (i * 2 ^ 14 + j)) ≡ j = omega arith in
     grind (arith, tells)
+reads-back p _ _ rest (of-offset i j hi hj) =
+    let a : sort (kinded 7 (i * 2 ^ 14 + j)) ≡ 7 = omega arith in
+    let d : first (kinded 7 (i * 2 ^ 14 + j)) ≡ i = omega arith in
+    let e : second (kinded 7 (i * 2 ^ 14 + j)) ≡ j = omega arith in
+    grind (arith, tells)
+reads-back p _ _ rest of-offsets = refl
+reads-back p _ _ rest of-realise = refl
 reads-back p _ _ rest of-issue = refl
 reads-back p _ _ rest of-recall = refl
 reads-back p _ _ rest (of-walk ws h) =

@@ -17,7 +17,7 @@ use Rattle.calls.specs.Calls as calls
 use Rattle.text.specs.Writing.{Wrote}
 use Rattle.text.proofs.Writes as writes
 use Rattle.report.specs.Reading.{Reading, unread, ahead, past, shut}
-use Rattle.report.specs.Entries.{Item, size, link, strike, issue, recall, walk, taken, width}
+use Rattle.report.specs.Entries.{Item, size, link, strike, offset, all-offsets, realise, issue, recall, walk, taken, width}
 use Rattle.report.specs.Doing.{Outcome, unmade, answered, Asks, Does, unmeasured, unwanted, called, Lent, sizes}
 use Rattle.report.specs.Lines.{lineOf, faultLine}
 use Rattle.report.specs.History.{Step, did, failed, History, opened, then, broken, linesOf, reportOf, Report, Cut, Made, none, skipped, called-on, Follows, entry-line, fault-line, Onward}
@@ -34,6 +34,9 @@ some-words : (n : ℕ) (e : Item) → 1 ≤ taken n e
 some-words n (size m) = grind (arith, tells)
 some-words n (link i j m w) = grind (arith, tells)
 some-words n (strike i j) = grind (arith, tells)
+some-words n (offset i j) = grind (arith, tells)
+some-words n all-offsets = grind (arith, tells)
+some-words n realise = grind (arith, tells)
 some-words n issue = grind (arith, tells)
 some-words n recall = grind (arith, tells)
 some-words n (walk ws) = grind (arith, tells)
@@ -57,12 +60,12 @@ module _ {L T : Type 0} (M : Meaning L T) (r : Reading) (s : State (M .quantitie
   step-less _ _ (failed f a w g x) = shut-less r f a
 
   pub step-within : (r′ : Reading) (s′ : State (M .quantities .Q)) → Step M r s m m′ row row′ l r′ s′ → l .bytes ≤ length row′
-  step-within _ _ (did e o t x d w f y) = inside row row′ (lineOf M e o) (l .bytes) w
+  step-within _ _ (did e o t x d w f y) = inside row row′ (lineOf M (s .n) e o) (l .bytes) w
   step-within _ _ (failed f x w g y) = inside row row′ (faultLine f) (l .bytes) w
 
 module _ {L T : Type 0} (M : Meaning L T) (kind : FileKind) (capacity : ℕ) (rows : Rows) where
   abbrev Entries : Type 0
-  Entries = List (Item × Outcome (M .quantities .Q))
+  Entries = List (Item × Outcome (M .quantities .Q) × ℕ)
 
   -- so much of a file is done since the list h of its calls, and the further lines are what was written to the row a
   pub record Going (file : List ℕ) (h : Entries) (f : Option FileFault) (r : Reading) (s : State (M .quantities .Q)) (a b : List ℕ) (at : ℕ) : Type 0 where
@@ -82,8 +85,8 @@ module _ {L T : Type 0} (M : Meaning L T) (kind : FileKind) (capacity : ℕ) (ro
       where
         go : (h : Entries) (f : Option FileFault) → History M kind capacity rows file h f r s → reportOf M kind capacity rows h f ≡ reportOf M kind capacity rows h₀ f₀ ++ g .bytes → Going file h₀ f₀ (past r e) t a c end
         go h None ran lines = record {
-          bytes = g .bytes ++ lineOf M e o;
-          onward = record { entries = (e, o) ∷ h; fault = None; ran = then h r s t e o ran x (subst (λ z. Does M z s e o t) same d); lines = ap (λ z. z ++ lineOf M e o) lines ∙ append-assoc (reportOf M kind capacity rows h₀ f₀) (g .bytes) (lineOf M e o) };
+          bytes = g .bytes ++ lineOf M (s .n) e o;
+          onward = record { entries = (e, o, s .n) ∷ h; fault = None; ran = then h r s t e o ran x (subst (λ z. Does M z s e o t) same d); lines = ap (λ z. z ++ lineOf M (s .n) e o) lines ∙ append-assoc (reportOf M kind capacity rows h₀ f₀) (g .bytes) (lineOf M (s .n) e o) };
           wrote = writes.then (g .wrote) (subst (λ (bs : List ℕ). Wrote b at bs c end) (w .front) v);
         }
         go h (Some f) ran lines = absurd (let no : ahead r ≡ Ok None = unbroken file h f r s ran in let z : _≡_ {A = ℕ} 0 1 = cc in omega arith)
@@ -101,11 +104,11 @@ module _ {L T : Type 0} (M : Meaning L T) (kind : FileKind) (capacity : ℕ) (ro
   pub righted : (file : List ℕ) (h : Entries) (f : Option FileFault) (r : Reading) (s : State (M .quantities .Q)) → History M kind capacity rows file h f r s
       → (cs : List (Call (M .quantities .Q) × Answer (M .quantities .Q))) × Made M kind capacity rows h cs × Ran M cs s
   righted file _ _ _ _ opened = ([], none, made capacity)
-  righted file _ _ _ _ (then h r s t e o before x (unmeasured i j m w k)) = let y = righted file h None r s before in (y .0, skipped h (y .0) _ _ (y .1), y .2)
-  righted file _ _ _ _ (then h r s t e o before x (unwanted i j m w p k l)) = let y = righted file h None r s before in (y .0, skipped h (y .0) _ _ (y .1), y .2)
+  righted file _ _ _ _ (then h r s t e o before x (unmeasured i j m w k)) = let y = righted file h None r s before in (y .0, skipped h (y .0) _ _ _ (y .1), y .2)
+  righted file _ _ _ _ (then h r s t e o before x (unwanted i j m w p k l)) = let y = righted file h None r s before in (y .0, skipped h (y .0) _ _ _ (y .1), y .2)
   righted file _ _ _ _ (then h r s t e o before x (called _ c a _ asks right next)) =
       let y = righted file h None r s before in
-      ((c, a) ∷ y .0, called-on h (y .0) e c a asks (y .1), calls.then (y .0) s t c a (y .2) right next)
+      ((c, a) ∷ y .0, called-on h (y .0) e c a _ asks (y .1), calls.then (y .0) s t c a (y .2) right next)
   righted file _ _ _ _ (broken h r s f before x) = righted file h None r s before
 
   pub ends : (file : List ℕ) (r : Reading) (s : State (M .quantities .Q)) (a b : List ℕ) (at : ℕ) → Going file [] None r s a b at → ahead r ≡ Ok None
@@ -123,7 +126,7 @@ module _ {L T : Type 0} (M : Meaning L T) (kind : FileKind) (capacity : ℕ) (ro
     cuts _ _ g (did e o t x d w q y) less = cut (g .onward .entries) (g .onward .fault) (g .onward .ran) (g .onward .lines)
       where
         cut : (h : Entries) (f : Option FileFault) → History M kind capacity rows file h f r s → reportOf M kind capacity rows h f ≡ g .bytes → Cuts
-        cut h None ran lines = (g .bytes, record { entries = h; reading = r; state = s; ran = ran; lines = sym lines; next = lineOf M e o; follows = entry-line e o t x (subst (λ z. Does M z s e o t) same d); full = omega (arith, g .wrote .ends, w .ends) }, g .wrote)
+        cut h None ran lines = (g .bytes, record { entries = h; reading = r; state = s; ran = ran; lines = sym lines; next = lineOf M (s .n) e o; follows = entry-line e o t x (subst (λ z. Does M z s e o t) same d); full = omega (arith, g .wrote .ends, w .ends) }, g .wrote)
         cut h (Some f) ran lines = absurd (let no : ahead r ≡ Ok None = unbroken file h f r s ran in let z : _≡_ {A = ℕ} 0 1 = cc in omega arith)
     cuts _ _ g (failed f x w q y) less = cut (g .onward .entries) (g .onward .fault) (g .onward .ran) (g .onward .lines)
       where

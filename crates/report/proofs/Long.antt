@@ -11,7 +11,7 @@ use Rattle.std.proofs.shelf.Lists.{take-rest, length-take}
 use Rattle.std.specs.declared.result.Result.the-variants.{Ok, Err}
 use Rattle.std.specs.declared.option.Option.the-variants.{Some, None}
 use Rattle.report.specs.Words.{wordsOf, body}
-use Rattle.report.specs.Entries.{entryOf, linkOf, walkOf, headed, opening, upcoming, width, taken, Item}
+use Rattle.report.specs.Entries.{entryOf, wordOf, bareOf, linkOf, walkOf, headed, opening, upcoming, width, taken, Item}
 use Rattle.report.specs.Reading.{Reading, ahead}
 use Rattle.report.specs.declared.file.FileKind.{FileKind}
 
@@ -30,9 +30,15 @@ link-fits p w (m ∷ v ∷ ws) e h = grind (arith, tells)
 pub walk-fits : (p n : ℕ) (ws : List ℕ) (e : Item) → walkOf p n ws ≡ Ok (Some e) → width e ≤ suc (length ws)
 walk-fits p n ws e h = let k = length-take n ws in grind (arith, tells)
 
+bare-fits : (p w : ℕ) (e : Item) → bareOf p w ≡ Ok (Some e) → width e ≤ 1
+bare-fits p w e h = grind (arith, tells)
+
+word-fits : (p w : ℕ) (e : Item) → wordOf p w ≡ Ok (Some e) → width e ≤ 1
+word-fits p w e h = let b = bare-fits p w e in grind (arith, tells)
+
 pub entry-fits : (p : ℕ) (ws : List ℕ) (e : Item) → entryOf p ws ≡ Ok (Some e) → width e ≤ length ws
 entry-fits p [] e h = grind (arith, tells)
-entry-fits p (w ∷ ws) e h = let k = link-fits p w ws e in let l = walk-fits p (body w) ws e in grind (arith, tells)
+entry-fits p (w ∷ ws) e h = let k = link-fits p w ws e in let l = walk-fits p (body w) ws e in let b = word-fits p w e in grind (arith, tells)
 
 pub headed-fits : (kind : FileKind) (ws : List ℕ) (e : Item) → headed kind ws ≡ Ok (Some e) → 1 + width e ≤ length ws
 headed-fits kind [] e h = grind (arith, tells)
@@ -80,7 +86,7 @@ link-short p w (m ∷ v ∷ ws) e h = grind (arith, tells)
 
 entry-short : (p : ℕ) (ws : List ℕ) (e : Item) → entryOf p ws ≡ Ok (Some e) → width e ≤ 1025
 entry-short p [] e h = grind (arith, tells)
-entry-short p (w ∷ ws) e h = let k = link-short p w ws e in let l = walk-short p (body w) ws e in grind (arith, tells)
+entry-short p (w ∷ ws) e h = let k = link-short p w ws e in let l = walk-short p (body w) ws e in let b = word-fits p w e in grind (arith, tells)
 
 headed-short : (kind : FileKind) (ws : List ℕ) (e : Item) → headed kind ws ≡ Ok (Some e) → width e ≤ 1025
 headed-short kind [] e h = grind (arith, tells)

@@ -12,7 +12,7 @@ use Rattle.std.specs.declared.option.Option.{Option}
 use Rattle.std.specs.declared.option.Option.the-variants.{Some, None}
 use Rattle.report.specs.Words.{wordsOf, sort, body, first, second, signed28}
 use Rattle.report.specs.declared.file.Entry.{Entry}
-use Rattle.report.specs.declared.file.Entry.the-variants.{Size, Link, Strike, Issue, Recall, Walk}
+use Rattle.report.specs.declared.file.Entry.the-variants.{Size, Link, Strike, Offset, Offsets, Realise, Issue, Recall, Walk}
 use Rattle.report.specs.declared.file.FileFault.{FileFault}
 use Rattle.report.specs.declared.file.FileFault.the-variants.{Long, Ragged, NoHead, Stray}
 use Rattle.report.specs.declared.file.FileKind.{FileKind}
@@ -23,6 +23,9 @@ pub data Item : Type 0 where
   size : ℕ → Item
   link : ℕ → ℕ → ℤ → ℤ → Item
   strike : ℕ → ℕ → Item
+  offset : ℕ → ℕ → Item
+  all-offsets : Item
+  realise : Item
   issue : Item
   recall : Item
   walk : List ℕ → Item
@@ -32,6 +35,9 @@ abbrev pub itemOf : Entry → Item
 itemOf (Size n) = size n
 itemOf (Link i j m w) = link i j m w
 itemOf (Strike i j) = strike i j
+itemOf (Offset i j) = offset i j
+itemOf Offsets = all-offsets
+itemOf Realise = realise
 itemOf Issue = issue
 itemOf Recall = recall
 itemOf (Walk bytes) = walk (wordsOf (now bytes))
@@ -63,17 +69,27 @@ linkOf p w (m ∷ v ∷ ws) =
 abbrev pub walkOf : ℕ → ℕ → List ℕ → Found
 walkOf p n ws = cond (ltb 1024 n) (stray p) (cond (ltb (length ws) n) (stray (p + 1 + length ws)) (entry (walk (take n ws))))
 
+-- a call of one word whose body is zero
+abbrev pub bareOf : ℕ → ℕ → Found
+bareOf p w =
+    cond (eqb w 0x8000_0000) (entry all-offsets)
+    (cond (eqb w 0x9000_0000) (entry realise)
+    (cond (eqb w 0xC000_0000) (entry issue)
+    (cond (eqb w 0xD000_0000) (entry recall)
+    (stray p))))
+
+-- a call of one word
+abbrev pub wordOf : ℕ → ℕ → Found
+wordOf p w =
+    cond (eqb (sort w) 2) (entry (size (body w)))
+    (cond (eqb (sort w) 6) (entry (strike (first w) (second w)))
+    (cond (eqb (sort w) 7) (entry (offset (first w) (second w)))
+    (bareOf p w)))
+
 -- the call that begins with word p
 abbrev pub entryOf : ℕ → List ℕ → Found
 entryOf p [] = Ok None
-entryOf p (w ∷ ws) =
-    cond (eqb (sort w) 2) (entry (size (body w)))
-    (cond (eqb (sort w) 3) (linkOf p w ws)
-    (cond (eqb (sort w) 6) (entry (strike (first w) (second w)))
-    (cond (eqb w 0xC000_0000) (entry issue)
-    (cond (eqb w 0xD000_0000) (entry recall)
-    (cond (eqb (sort w) 14) (walkOf p (body w) ws)
-    (stray p))))))
+entryOf p (w ∷ ws) = cond (eqb (sort w) 3) (linkOf p w ws) (cond (eqb (sort w) 14) (walkOf p (body w) ws) (wordOf p w))
 
 -- the head of a file of each kind
 abbrev pub headOf : FileKind → ℕ
@@ -100,6 +116,9 @@ abbrev pub width : Item → ℕ
 width (size n) = 1
 width (link i j m w) = 3
 width (strike i j) = 1
+width (offset i j) = 1
+width all-offsets = 1
+width realise = 1
 width issue = 1
 width recall = 1
 width (walk ws) = 1 + length ws

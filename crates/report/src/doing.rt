@@ -3,7 +3,7 @@ ghost use Prim.Native.Nat.{_≤_};
 ghost use lib.ListN.{length};
 ghost use Rattle.book.specs.Memory.{stateOf};
 ghost use Rattle.report.specs.Words.{wordsOf};
-ghost use Rattle.report.specs.Entries.{link, walk, itemOf, width};
+ghost use Rattle.report.specs.Entries.{link, offset, all-offsets, realise, walk, itemOf, width};
 ghost use Rattle.report.specs.Doing.{Did, Made, Lent, lentOf};
 use crate::fault::CallFault;
 use crate::fault::CallFaultFromLatency;
@@ -63,6 +63,44 @@ fn do_walk<K: Kind>(book: &Book<K>, bytes: &[u8]) -> Result<Good<K::Total>, Call
     Ok(Good::Totals(measured, wanted))
 }
 
+fn do_offset<K: Kind>(
+    book: &Book<K>,
+    i: u32,
+    j: u32,
+    totals: &mut [K::Total],
+    numbers: &mut [u32],
+    steps: &[u32],
+) -> Result<Good<K::Total>, CallFault>
+    ensures { λ r. ⌜ Did (K·Kind .meaning) (stateOf (K·Kind .meaning) (now (book .entry) .store)) (offset i j) r (stateOf (K·Kind .meaning) (now (book .entry) .store)) (lentOf (now (totals .entry)) (now (numbers .entry)) (now (steps .entry))) (lentOf (now (totals .exit)) (now (numbers .exit)) (now (steps .entry))) ⌝ }
+{
+    let t = book.offset(i, j, totals, numbers, steps)?;
+    Ok(Good::Total(t))
+}
+
+fn do_offsets<K: Kind>(
+    book: &Book<K>,
+    totals: &mut [K::Total],
+    numbers: &mut [u32],
+    steps: &[u32],
+) -> Result<Good<K::Total>, CallFault>
+    ensures { λ r. ⌜ Did (K·Kind .meaning) (stateOf (K·Kind .meaning) (now (book .entry) .store)) all-offsets r (stateOf (K·Kind .meaning) (now (book .entry) .store)) (lentOf (now (totals .entry)) (now (numbers .entry)) (now (steps .entry))) (lentOf (now (totals .exit)) (now (numbers .exit)) (now (steps .entry))) ⌝ }
+{
+    book.offsets(totals, numbers, steps)?;
+    Ok(Good::Offsets(book.switches() as usize))
+}
+
+fn do_realise<K: Kind>(
+    book: &Book<K>,
+    totals: &mut [K::Total],
+    numbers: &mut [u32],
+    steps: &mut [u32],
+) -> Result<Good<K::Total>, CallFault>
+    ensures { λ r. ⌜ Did (K·Kind .meaning) (stateOf (K·Kind .meaning) (now (book .entry) .store)) realise r (stateOf (K·Kind .meaning) (now (book .entry) .store)) (lentOf (now (totals .entry)) (now (numbers .entry)) (now (steps .entry))) (lentOf (now (totals .exit)) (now (numbers .exit)) (now (steps .exit))) ⌝ }
+{
+    book.realise(totals, numbers, steps)?;
+    Ok(Good::Schedule(book.switches() as usize))
+}
+
 // Does a call of a file on the book.
 pub(crate) fn perform<K: Kind>(
     book: &mut Book<K>,
@@ -78,6 +116,9 @@ pub(crate) fn perform<K: Kind>(
         Entry::Size(n) => book.size(n)?,
         Entry::Link(i, j, m, w) => return do_link(book, i, j, m, w, totals, numbers, steps),
         Entry::Strike(i, j) => book.strike(i, j)?,
+        Entry::Offset(i, j) => return do_offset(book, i, j, totals, numbers, steps),
+        Entry::Offsets => return do_offsets(book, totals, numbers, steps),
+        Entry::Realise => return do_realise(book, totals, numbers, steps),
         Entry::Issue => book.issue()?,
         Entry::Recall => book.recall()?,
         Entry::Walk(bytes) => return do_walk(book, bytes),

@@ -36,7 +36,12 @@ pub struct Placed {
 #[derive(Clone, Copy)]
 pub enum Good<T> {
     Done,
+    Total(T),
     Totals(T, T),
+    // offsets that carry the links, in so many totals
+    Offsets(usize),
+    // the least offsets, likewise
+    Schedule(usize),
 }
 
 pub impl From<LatencyFault> for CallFault as CallFaultFromLatency {

@@ -4,7 +4,7 @@ ghost use Prim.Native.Nat.{_+_, _^_, _≤_};
 ghost use lib.ListN.{length, take};
 ghost use Rattle.std.specs.Options.{Cases as BySome};
 ghost use Rattle.report.specs.Words.{wordsOf, signed28};
-ghost use Rattle.report.specs.Entries.{opening, entryOf, linkOf, walkOf, itemOf, foundOf, width, taken, fileNumber, filePlace, headOf, kindOf};
+ghost use Rattle.report.specs.Entries.{opening, entryOf, wordOf, bareOf, linkOf, walkOf, itemOf, foundOf, width, taken, fileNumber, filePlace, headOf, kindOf};
 
 // A file of more bytes is refused whole.
 const MAX_FILE: usize = 65536;
@@ -25,6 +25,9 @@ pub enum Entry<'f> {
     Size(u32),
     Link(u32, u32, i32, i32),
     Strike(u32, u32),
+    Offset(u32, u32),
+    Offsets,
+    Realise,
     Issue,
     Recall,
     // the bytes of the words
@@ -167,6 +170,35 @@ fn walk_entry(place: u32, n: u32, bytes: &[u8]) -> Result<Option<Entry<'_>>, Fil
     Ok(Some(Entry::Walk(&bytes[..4 * n as usize])))
 }
 
+// A call of one word, all of it fixed.
+fn bare_entry(place: u32, w: u32) -> Result<Option<Entry<'static>>, FileFault>
+    ensures { λ r. ⌜ foundOf r ≡ bareOf place w ⌝ }
+{
+    match w {
+        0x8000_0000 => Ok(Some(Entry::Offsets)),
+        0x9000_0000 => Ok(Some(Entry::Realise)),
+        0xC000_0000 => Ok(Some(Entry::Issue)),
+        0xD000_0000 => Ok(Some(Entry::Recall)),
+        _ => Err(FileFault::Stray(place)),
+    }
+}
+
+// A call of one word.
+fn word_entry(place: u32, w: u32) -> Result<Option<Entry<'static>>, FileFault>
+    ensures { λ r. ⌜ foundOf r ≡ wordOf place w ⌝ }
+{
+    if w >> 28 == 2 {
+        return Ok(Some(Entry::Size(w % 0x1000_0000)));
+    }
+    if w >> 28 == 6 {
+        return Ok(Some(Entry::Strike(w / 16384 % 16384, w % 16384)));
+    }
+    if w >> 28 == 7 {
+        return Ok(Some(Entry::Offset(w / 16384 % 16384, w % 16384)));
+    }
+    bare_entry(place, w)
+}
+
 // The call that begins with the first of the bytes, which is word `place` of the file.
 pub(crate) fn entry_at(place: u32, bytes: &[u8]) -> Result<Option<Entry<'_>>, FileFault>
     requires { ⌜ place ≤ 65536 ⌝ }
@@ -176,15 +208,13 @@ pub(crate) fn entry_at(place: u32, bytes: &[u8]) -> Result<Option<Entry<'_>>, Fi
     let Some((w, rest)) = first_word(bytes) else {
         return Ok(None);
     };
-    match (w >> 28, w % 0x1000_0000) {
-        (2, n) => Ok(Some(Entry::Size(n))),
-        (3, _) => link_entry(place, w, rest),
-        (6, _) => Ok(Some(Entry::Strike(w / 16384 % 16384, w % 16384))),
-        (12, 0) => Ok(Some(Entry::Issue)),
-        (13, 0) => Ok(Some(Entry::Recall)),
-        (14, n) => walk_entry(place, n, rest),
-        _ => Err(FileFault::Stray(place)),
+    if w >> 28 == 3 {
+        return link_entry(place, w, rest);
     }
+    if w >> 28 == 14 {
+        return walk_entry(place, w % 0x1000_0000, rest);
+    }
+    word_entry(place, w)
 }
 
 // What the bytes of a whole file say first, where its head has to name the kind.

@@ -107,7 +107,7 @@ impl<'f, 'b, 'a, K: Kind> Session<'f, 'b, 'a, K> {
         let first = self.first_word();
         self.reader.pass(e);
         let reply = perform(self.book, e, totals, numbers, steps);
-        let bytes = show::<K>(row, e, reply, steps);
+        let bytes = show::<K>(row, e, reply, totals, steps);
         Line {
             bytes,
             fault: fault_in(first, reply),

@@ -10,9 +10,10 @@ use Rattle.std.specs.declared.option.Option.{Option}
 use Rattle.std.specs.declared.option.Option.the-variants.{Some, None}
 use Rattle.network.specs.declared.Step.{Step}
 use Rattle.network.specs.declared.Step.the-variants.{Forward, Backward}
-use Rattle.network.specs.Graph.{Graph, place, start, end, reverse, Joining, switches, Distinct}
+use Rattle.network.specs.Graph.{Graph, place, start, end, reverse, Connected, Upto, Joining, switches, Distinct}
 use Rattle.network.specs.Climb.{Climb, Forest}
 use Rattle.network.specs.Climb.{ups}
+use Rattle.network.proofs.Graph.{ahead, trans}
 use Rattle.network.proofs.Climb.{climb-distinct}
 use Rattle.network.proofs.Turning.{Put, Rerooting, turned, ended}
 use Rattle.network.proofs.Count.{pigeons, climb-ups}
@@ -117,3 +118,13 @@ module _ (g : Graph) (k n : ℕ) (z : Wired g k n) (few : k ≤ 8192) (i : ℕ) 
 
   pub row-done : None ≡ decode (getD row (x - 1) 0) → Forest g k (parents (set row (x - 1) hang)) × (parents (set row (x - 1) hang) i ≡ None)
   row-done e = done g k n z i (parents row) (parents (set row (x - 1) hang)) x (decode hang) v put-here o (ups-at row x (o .0) ∙ sym e)
+
+  -- all that is written belongs to i's group
+  module _ (c : Connected g (Upto k) i x) where
+    pub row-near : (s : Step) (y : ℕ) → Some s ≡ decode (getD row (x - 1) 0) → y ≡ end g s → Connected g (Upto k) i y
+    row-near s y e p =
+        let j = v .points x s (word-is s e) in
+        subst (Connected g (Upto k) i) (sym p) (trans g (Upto k) i x (end g s) c (subst (λ u. Connected g (Upto k) u (end g s)) (j .0) (ahead g (Upto k) s (j .1 .0, j .1 .1))))
+
+    pub row-others : (u : ℕ) → (Connected g (Upto k) i u → ⊥) → parents (set row (x - 1) hang) u ≡ parents row u
+    row-others u d = put-here .elsewhere u (λ e. d (subst (Connected g (Upto k) i) (sym e) c))

@@ -82,8 +82,8 @@ none-grouped g n labels ranks up h r u =
     at (suc v) = ap (λ w. parents (w ∷ []) 1) (u v)
 
 -- pointers straight to the leaders are labels
-pub all-joined : (g : Graph) (k n : ℕ) (labels ranks up labels′ : List ℕ) → length labels ≡ n → Grouped g k n labels ranks up → ((l : ℕ → ℕ) → Leader (length labels) (label labels) l → (v : ℕ) → On (length labels) v → label labels′ v ≡ l v) → Joined g k n labels′ up
-all-joined g k n labels ranks up labels′ same G flat = record { forest = G .forest; labelled = λ u v a b. let h = G .labelled u v a b in (λ e. h .0 (sym (at u a) ∙ e ∙ at v b), λ c. at u a ∙ h .1 c ∙ sym (at v b)) }
+pub all-joined : (g : Graph) (k n : ℕ) (labels ranks up labels′ : List ℕ) → length labels ≡ n → Grouped g k n labels ranks up → ((v : ℕ) → On (length labels) v → On (length labels) (label labels′ v)) → ((l : ℕ → ℕ) → Leader (length labels) (label labels) l → (v : ℕ) → On (length labels) v → label labels′ v ≡ l v) → Joined g k n labels′ up
+all-joined g k n labels ranks up labels′ same G within flat = record { forest = G .forest; inside = subst (λ m. (v : ℕ) → On m v → On m (label labels′ v)) same within; labelled = λ u v a b. let h = G .labelled u v a b in (λ e. h .0 (sym (at u a) ∙ e ∙ at v b), λ c. at u a ∙ h .1 c ∙ sym (at v b)) }
   where
     at : (v : ℕ) → On n v → label labels′ v ≡ G .leader v
     at v o = flat (G .leader) (subst (λ m. Leader m (label labels) (G .leader)) (sym same) (G .leads)) v (subst (λ m. On m v) (sym same) o)

@@ -10,3 +10,5 @@ pub mod Settling
 pub mod Stacking
 pub mod Carrying
 pub mod Verdicts
+pub mod Rooting
+pub mod Differences

@@ -28,7 +28,7 @@ use Rattle.search.specs.Joined.{label, Joined}
 use Rattle.search.specs.Settled.{gap, Placed, offset, Reached}
 use Rattle.search.specs.Written.{Written, Climbed}
 use Rattle.search.specs.Verdict.{WayBack, Shown}
-use Rattle.search.proofs.Wiring.{Wired, one-graph, from-at, to-at}
+use Rattle.search.proofs.Wiring.{Wired, some, one-graph, from-at, to-at}
 use Rattle.search.proofs.Climbs.{climb-short}
 use Rattle.search.proofs.Ways.{nothing}
 
@@ -75,10 +75,6 @@ module _ {L T : Type 0} (M : Meaning L T) (links : List (Record L)) where
         let p = placed v o in
         let short : length (p .0) < n = climb-short (graphOf links) (length links) n z (parents up) (f .points) v (p .0) (p .1) (p .2) o in
         M .wider (2 * length (p .0)) 2048 (getD row (v - 1) t) (omega arith) (p .3 t .1)
-
-    some : (xs : List T) → 0 < length xs → T
-    some [] h = absurd (omega arith)
-    some (x ∷ xs) h = x
 
     pot : ℕ → M .quantities .Q
     pot = potential (M .quantities) (graphOf links) (gap M links) (length links) (parents up) f

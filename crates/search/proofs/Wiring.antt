@@ -20,7 +20,7 @@ read-at f links (suc p) r a b e =
     let q : suc p - 1 ≡ p = omega arith in
     ap f (e ∙ ap (λ i. getD links i r) q) ∙ sym (getD-map f links p r 0 (omega arith))
 
-some : {X : Type 0} (xs : List X) → 0 < length xs → X
+pub some : {X : Type 0} (xs : List X) → 0 < length xs → X
 some [] h = absurd (omega arith)
 some (x ∷ xs) h = x
 

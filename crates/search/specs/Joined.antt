@@ -18,3 +18,4 @@ Labelled g k n l = (u v : ℕ) → On n u → On n v → (l u ≡ l v → Connec
 pub record Joined (g : Graph) (k n : ℕ) (labels up : List ℕ) : Type 0 where
   pub forest : Forest g k (parents up)
   pub labelled : Labelled g k n (label labels)
+  pub inside : (v : ℕ) → On n v → On n (label labels v)

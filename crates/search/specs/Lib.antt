@@ -6,3 +6,5 @@ pub mod Written
 pub mod Settled
 pub mod Chain
 pub mod Verdict
+pub mod Rooted
+pub mod Known

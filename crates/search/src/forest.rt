@@ -24,6 +24,7 @@ pub(crate) fn reroot<L: Copy>(up: &mut [u32], links: &[Link<L>], count: usize, i
     requires inside { ⌜ On (length (now up)) i ⌝ }
     ensures still { λ _. ⌜ Forest (graphOf (now (links .entry))) count (parents (now (up .exit))) ⌝ }
     ensures root { λ _. ⌜ parents (now (up .exit)) i ≡ None ⌝ }
+    ensures others { λ _. ⌜ ((v : ℕ) → (Connected (graphOf (now (links .entry))) (Upto count) i v → ⊥) → parents (now (up .exit)) v ≡ parents (now (up .entry)) v) ⌝ }
 {
     let mut x = i;
     let mut hang: u32 = 0;
@@ -131,7 +132,8 @@ fn scatter(labels: &mut [u32], ranks: &mut [u32], up: &mut [u32])
 fn flatten(labels: &mut [u32], ranks: &[u32])
     requires few { ⌜ length (now labels) ≤ 1024 ⌝ }
     requires rising { ⌜ Rising 8192 (length (now labels)) (label (now labels)) (label (now ranks)) ⌝ }
-    ensures { λ _. ⌜ ((l : ℕ → ℕ) → Leader (length (now (labels .entry))) (label (now (labels .entry))) l → (v : ℕ) → On (length (now (labels .entry))) v → label (now (labels .exit)) v ≡ l v) ⌝ }
+    ensures inside { λ _. ⌜ ((v : ℕ) → On (length (now (labels .entry))) v → On (length (now (labels .entry))) (label (now (labels .exit)) v)) ⌝ }
+    ensures leads { λ _. ⌜ ((l : ℕ → ℕ) → Leader (length (now (labels .entry))) (label (now (labels .entry))) l → (v : ℕ) → On (length (now (labels .entry))) v → label (now (labels .exit)) v ≡ l v) ⌝ }
 {
     for i in 0..labels.len() {
         labels[i] = root(labels, ranks, i as u32 + 1);

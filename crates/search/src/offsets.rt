@@ -185,7 +185,7 @@ pub(crate) fn settle_all<K: Kind>(
     }
 }
 
-fn wipe(marks: &mut [u32])
+pub(crate) fn wipe(marks: &mut [u32])
     ensures { λ _. ⌜ ((v : ℕ) → getD (now (marks .exit)) v 0 ≡ 0) ⌝ }
 {
     for j in 0..marks.len() {

@@ -9,12 +9,11 @@ ghost use Rattle.search.specs.Records.{linkOf, graphOf, On, Sound};
 ghost use Rattle.search.specs.Joined.{Joined};
 ghost use Rattle.search.specs.Settled.{offset, Reached};
 ghost use Rattle.search.specs.Verdict.{Shown, Judged};
-use crate::carries::all_carried;
 use crate::carries::carried;
+use crate::carries::carry;
 use crate::forest::join;
 use crate::forest::reroot;
 use crate::link::Link;
-use crate::offsets::settle_all;
 use crate::path::climb;
 use kind::Kind;
 
@@ -38,8 +37,7 @@ pub(crate) fn survey<K: Kind>(
     ensures no { λ r. ⌜ (Fits (K·Kind .meaning .quantities) (map (linkOf (K·Kind .meaning)) (now (links .entry))) → r ≡ true) ⌝ }
 {
     join(labels, stack, up, links);
-    settle_all::<K>(up, links, links.len(), stack, marks, row);
-    all_carried::<K>(links, row, up.len())
+    carry::<K>(links, up, stack, marks, row)
 }
 
 // Whether the links with a new one fit, after a survey of the links that found whether they do.

@@ -5,10 +5,13 @@ ghost use lib.ListN.{length};
 ghost use Rattle.std.specs.Written.{decimal, signed, glyph};
 ghost use Rattle.text.specs.Writing.{Wrote, hex, bytesOf};
 
-// The bytes of one printed number, at most 31.
+// A printed number has at most so many bytes: a line of 1,024 of them has to fit its row.
+const LIMIT: usize = 28;
+
+// The bytes of one printed number.
 #[derive(Clone, Copy)]
 pub struct Text {
-    bytes: [u8; 31],
+    bytes: [u8; LIMIT],
     len: usize,
 }
 
@@ -17,7 +20,7 @@ impl Text {
     pub fn of_number(n: u64) -> Text
         ensures { λ r. ⌜ bytesOf r ≡ decimal n ⌝ }
     {
-        let mut bytes = [0u8; 31];
+        let mut bytes = [0u8; LIMIT];
         let len = put_number(&mut bytes, 0, n);
         Text { bytes, len }
     }
@@ -26,7 +29,7 @@ impl Text {
     pub fn of_signed(z: i64) -> Text
         ensures { λ r. ⌜ bytesOf r ≡ signed z ⌝ }
     {
-        let mut bytes = [0u8; 31];
+        let mut bytes = [0u8; LIMIT];
         let len = put_signed(&mut bytes, z);
         Text { bytes, len }
     }
@@ -35,16 +38,16 @@ impl Text {
     pub fn of_word(w: u32) -> Text
         ensures { λ r. ⌜ bytesOf r ≡ hex 8 w ⌝ }
     {
-        let mut bytes = [0u8; 31];
+        let mut bytes = [0u8; LIMIT];
         let len = put_hex(&mut bytes, 8, w);
         Text { bytes, len }
     }
 
     pub fn as_bytes(&self) -> &[u8]
         ensures bytes { λ r. ⌜ now r ≡ bytesOf (now (self .entry)) ⌝ }
-        ensures short { λ r. ⌜ length (now r) ≤ 31 ⌝ }
+        ensures short { λ r. ⌜ length (now r) ≤ 28 ⌝ }
     {
-        if self.len > 31 {
+        if self.len > LIMIT {
             return &self.bytes;
         }
         &self.bytes[0..self.len]

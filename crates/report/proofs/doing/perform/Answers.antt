@@ -37,3 +37,12 @@ returns g c =
 
 pub returns-in-Walk : need.returns-in-Walk
 returns-in-Walk g c = rw (c .in-Walk .is) (c .do-walk .ensures _)
+
+pub returns-in-Offset : need.returns-in-Offset
+returns-in-Offset g c = rw (c .in-Offset .is) (c .do-offset .ensures)
+
+pub returns-in-Offsets : need.returns-in-Offsets
+returns-in-Offsets g c = rw (c .in-Offsets .is) (c .do-offsets .ensures)
+
+pub returns-in-Realise : need.returns-in-Realise
+returns-in-Realise g c = rw (c .in-Realise .is) (c .do-realise .ensures)

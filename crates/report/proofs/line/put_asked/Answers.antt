@@ -10,3 +10,6 @@ returns-in-Link c = record { bound = omega arith; wrote = rw (c .in-Link .is) (t
 
 pub returns-in-Strike : need.returns-in-Strike
 returns-in-Strike c = record { bound = omega arith; wrote = rw (c .in-Strike .is) (then (c .put-text-a-in-Strike .ensures .wrote) (c .put-pair-in-Strike .ensures .wrote)) }
+
+pub returns-in-Offset : need.returns-in-Offset
+returns-in-Offset c = record { bound = omega arith; wrote = rw (c .in-Offset .is) (then (c .put-text-a-in-Offset .ensures .wrote) (c .put-pair-in-Offset .ensures .wrote)) }

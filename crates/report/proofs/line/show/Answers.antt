@@ -5,5 +5,5 @@ use Rattle.report.proofs.line.show.Needs as need
 pub returns : need.returns
 returns g c = record {
   bound = omega arith;
-  wrote = λ h. then (c .put-asked-a .ensures .wrote) (then (c .put-told-b .ensures .wrote h) (c .put-text .ensures .wrote));
+  wrote = λ n h. then (c .put-asked-a .ensures .wrote) (then (c .put-told-b .ensures .wrote n h) (c .put-text .ensures .wrote));
 }

@@ -21,4 +21,4 @@ loop-i-again c =
     )
 
 pub returns : need.returns
-returns c = λ f F v o. let q : v - 1 + 1 ≡ v = omega (arith, o .0) in c .loop-i .inv .1 f F .1 (v - 1) (omega (arith, o .0, o .1)) ∙ ap f q
+returns c = record { inside = c .loop-i .inv .0 .inside; leads = λ f F v o. let q : v - 1 + 1 ≡ v = omega (arith, o .0) in c .loop-i .inv .1 f F .1 (v - 1) (omega (arith, o .0, o .1)) ∙ ap f q }

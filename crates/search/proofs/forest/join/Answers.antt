@@ -11,5 +11,5 @@ loop-k-holds g c = none-grouped (graphOf (c .args .links .now)) (length (c .scat
 
 pub returns : need.returns
 returns g c =
-    let J = all-joined (graphOf (c .args .links .now)) (c .loop-k .k) (length (c .scatter .last .labels)) (c .loop-k .labels) (c .loop-k .ranks) (c .loop-k .up) (c .flatten .last .labels) (c .loop-k .kept .labels) (c .loop-k .inv) (c .flatten .ensures) in
+    let J = all-joined (graphOf (c .args .links .now)) (c .loop-k .k) (length (c .scatter .last .labels)) (c .loop-k .labels) (c .loop-k .ranks) (c .loop-k .up) (c .flatten .last .labels) (c .loop-k .kept .labels) (c .loop-k .inv) (c .flatten .ensures .inside) (c .flatten .ensures .leads) in
     subst (λ m. Joined (graphOf (c .args .links .now)) m (length (c .args .up .now)) (c .flatten .last .labels) (c .loop-k .up)) (omega arith) (subst (λ n. Joined (graphOf (c .args .links .now)) (c .loop-k .k) n (c .flatten .last .labels) (c .loop-k .up)) (omega arith) J)

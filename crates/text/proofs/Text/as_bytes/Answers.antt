@@ -3,5 +3,5 @@ use native.Mathlib.Omega.{arith}
 use Rattle.std.proofs.shelf.Lists.{take-all}
 use Rattle.text.proofs.Text.as_bytes.Needs as need
 
-pub returns-then-self-gt31 : need.returns-then-self-gt31
-returns-then-self-gt31 c = record { bytes = sym (take-all (c .args .self .now .len) (c .args .self .now .bytes) (omega arith)); short = omega arith }
+pub returns-then-self-gt-LIMIT : need.returns-then-self-gt-LIMIT
+returns-then-self-gt-LIMIT c = record { bytes = sym (take-all (c .args .self .now .len) (c .args .self .now .bytes) (omega arith)); short = omega arith }

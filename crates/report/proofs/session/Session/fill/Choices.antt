@@ -17,7 +17,7 @@ use Rattle.report.proofs.session.Session.fill.Given as given
 abbrev pub Inv-loop-report : given.InvT-loop-report
 Inv-loop-report g l =
     (l .at ≤ length (l .report))
-    × ((kind : FileKind) (capacity : ℕ) (text : List ℕ) (h : List (Item × Outcome (g .K·Kind .meaning .quantities .Q))) (f : Option FileFault)
+    × ((kind : FileKind) (capacity : ℕ) (text : List ℕ) (h : List (Item × Outcome (g .K·Kind .meaning .quantities .Q) × ℕ)) (f : Option FileFault)
     → History (g .K·Kind .meaning) kind capacity (rowsOf (l .entry .totals) (l .entry .numbers) (l .entry .steps)) text h f (readingOf (l .entry .self .reader .at)) (stateOf (g .K·Kind .meaning) (now (l .entry .self .book) .store))
     → Going (g .K·Kind .meaning) kind capacity (rowsOf (l .entry .totals) (l .entry .numbers) (l .entry .steps)) text h f (readingOf (l .self .reader .at)) (stateOf (g .K·Kind .meaning) (now (l .self .book) .store)) (l .entry .report) (l .report) (l .at))
 
