@@ -44,7 +44,7 @@ pub enum FileFault {
 }
 
 impl FileFault {
-    pub fn number(self) -> u32
+    pub(crate) fn number(self) -> u32
         ensures { λ r. ⌜ r ≡ fileNumber self ⌝ }
     {
         match self {
@@ -56,7 +56,7 @@ impl FileFault {
     }
 
     // The word at fault, from 1, or 0 for the file as a whole.
-    pub fn place(self) -> u32
+    pub(crate) fn place(self) -> u32
         ensures { λ r. ⌜ r ≡ filePlace self ⌝ }
     {
         match self {
@@ -83,7 +83,7 @@ impl FileKind {
     }
 
     // The first word of a file of the kind.
-    pub fn head(self) -> u32
+    pub(crate) fn head(self) -> u32
         ensures { λ r. ⌜ r ≡ headOf self ⌝ }
     {
         match self {

@@ -18,5 +18,4 @@ pub use self::session::ShortLine;
 pub use self::whole::Filled;
 pub use self::whole::Full;
 pub use self::whole::format_stands;
-pub use self::whole::run;
 pub use self::whole::run_file;

@@ -116,7 +116,7 @@ impl<'f, 'b, 'a, K: Kind> Session<'f, 'b, 'a, K> {
 }
 
 // Works a whole file on one new book, and writes its report: every call's line in order, or the lines that fit.
-pub fn run<K: Kind>(
+fn run<K: Kind>(
     kind: FileKind,
     file: &[u8],
     links: &mut [Link<K::Latency>],
