@@ -56,7 +56,7 @@ pub(crate) fn chain(book: &mut Book<Ticks>, totals: &mut [i64; 6]) -> [Outcome; 
 }
 
 // A link that closes the chain and wants what the chain does is taken, and stands last.
-pub fn closing_link_fits<'a>(
+pub(crate) fn closing_link_fits<'a>(
     records: &'a mut [Link<TickLatency>; 3],
     outcomes: &mut [Outcome; 4],
 ) -> Book<'a, Ticks>
@@ -72,7 +72,7 @@ pub fn closing_link_fits<'a>(
 }
 
 // One that wants a tick more is refused, with the way back over the chain.
-pub fn closing_link_contradicts() -> [Outcome; 4]
+pub(crate) fn closing_link_contradicts() -> [Outcome; 4]
     ensures { λ r. ⌜ r ≡ Outcome.Taken ∷ Outcome.Taken ∷ Outcome.Taken ∷ Outcome.Refused 11 2 (0xB000_0002 ∷ 0xB000_0001 ∷ 0 ∷ []) ∷ [] ⌝ }
 {
     let mut records = [blank::<Ticks>(); 3];
@@ -84,7 +84,7 @@ pub fn closing_link_contradicts() -> [Outcome; 4]
 }
 
 // Once the second link is struck, that one is taken.
-pub fn struck_link_binds_no_more() -> [Outcome; 5]
+pub(crate) fn struck_link_binds_no_more() -> [Outcome; 5]
     ensures { λ r. ⌜ r ≡ Outcome.Taken ∷ Outcome.Taken ∷ Outcome.Taken ∷ Outcome.Taken ∷ Outcome.Taken ∷ [] ⌝ }
 {
     let mut records = [blank::<Ticks>(); 3];

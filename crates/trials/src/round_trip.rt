@@ -47,7 +47,7 @@ fn outward<K: Kind>(book: &mut Book<K>, totals: &mut [K::Total]) -> [Outcome; 2]
 }
 
 // In ticks a way out that wants 600 more and a way back that wants 400 more contradict.
-pub fn round_trip_in_ticks() -> [Outcome; 3]
+pub(crate) fn round_trip_in_ticks() -> [Outcome; 3]
     ensures { λ r. ⌜ r ≡ Outcome.Taken ∷ Outcome.Taken ∷ Outcome.Refused 11 1 (0xA000_0001 ∷ 0 ∷ 0 ∷ []) ∷ [] ⌝ }
 {
     let mut records = [blank::<Ticks>(); 3];
@@ -59,7 +59,7 @@ pub fn round_trip_in_ticks() -> [Outcome; 3]
 }
 
 // On a cycle of 1,000 places they fit.
-pub fn round_trip_in_places() -> [Outcome; 3]
+pub(crate) fn round_trip_in_places() -> [Outcome; 3]
     ensures { λ r. ⌜ r ≡ Outcome.Taken ∷ Outcome.Taken ∷ Outcome.Taken ∷ [] ⌝ }
 {
     let mut records = [blank::<Places>(); 3];
