@@ -53,6 +53,12 @@ mod tests {
         reports(b"\x10\x00\x00\x00\x20", b"FILE 0 NO 20\n")
     }
 
+    // Too long and ragged: the length is told.
+    #[test]
+    fn long_file() -> Result<(), Fail> {
+        reports(&[0u8; 65_537], b"FILE 0 NO 21\n")
+    }
+
     #[test]
     fn head_alone() -> Result<(), Fail> {
         reports(b"\x11\x00\x00\x00", b"")
