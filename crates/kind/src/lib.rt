@@ -1,3 +1,5 @@
+#![tactic(auto)]
+
 ghost use Rattle.std.specs.Prelude.{◌≡◌, ℕ, ◌+◌, ◌≤◌, true, Some, None, MatchResult};
 ghost use Rattle.text.specs.Writing.{bytes_of};
 ghost use Rattle.kind.specs.Meaning.{Meaning};

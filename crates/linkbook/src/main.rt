@@ -1,3 +1,5 @@
+#![tactic(auto)]
+
 use anyhow::anyhow;
 use book::{Book, Link};
 use kind::Kind;

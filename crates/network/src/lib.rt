@@ -1,3 +1,5 @@
+#![tactic(auto)]
+
 ghost use Rattle.std.specs.Prelude.{◌≡◌, List};
 ghost use Rattle.network.specs.Graph.{reverse};
 ghost use Rattle.network.specs.Offsets.{Link};

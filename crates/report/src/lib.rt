@@ -1,3 +1,5 @@
+#![tactic(auto)]
+
 mod doing;
 mod fault;
 mod file;

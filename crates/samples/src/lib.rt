@@ -1,4 +1,6 @@
 // Small files worked whole, and their reports.
+#![tactic(auto)]
+
 #[cfg(test)]
 mod tests {
     use book::Link;

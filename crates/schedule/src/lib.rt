@@ -1,3 +1,5 @@
+#![tactic(auto)]
+
 mod cycle;
 mod latency;
 mod least;

@@ -1,3 +1,5 @@
+#![tactic(auto)]
+
 mod carries;
 mod forest;
 mod known;

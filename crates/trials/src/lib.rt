@@ -1,3 +1,5 @@
+#![tactic(auto)]
+
 mod all;
 mod chain;
 mod outcome;
