@@ -19,5 +19,5 @@ returns-then-k-eq0 t c = record { end = omega arith; wrote = rw (hex_none c.args
 pub returns : goal.returns
 returns t c = record {
   end = omega arith;
-  wrote = rw (hex_more c.args.k c.args.w (omega arith), ← c.hex-digit.ensures) (then c.put-hex-last.ensures.wrote (byte _ _ _ (omega arith)));
+  wrote = rw (hex_more c.args.k c.args.w (omega arith), ← c.hex_digit.ensures) (then c.put_hex-last.ensures.wrote (byte _ _ _ (omega arith)));
 }

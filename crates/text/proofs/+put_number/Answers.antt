@@ -16,18 +16,18 @@ returns-then-n-lt10 t c =
     rw (decimal_digit c.args.n (omega arith))
     (byte c.args.row.now c.args.at (48 + c.args.n) (omega (arith, ap length (decimal_digit c.args.n (omega arith)))))
 
-pub put-number-last-requires : goal.put-number-last-requires
-put-number-last-requires t c = (omega arith, omega (arith, longer c.args.n (omega arith) (omega arith)))
+pub put_number-last-requires : goal.put_number-last-requires
+put_number-last-requires t c = (omega arith, omega (arith, longer c.args.n (omega arith) (omega arith)))
 
 pub bounds-row-last : goal.bounds-row-last
-bounds-row-last t c = omega (arith, longer c.args.n (omega arith) (omega arith), c.put-number-last.ensures.ends)
+bounds-row-last t c = omega (arith, longer c.args.n (omega arith) (omega arith), c.put_number-last.ensures.ends)
 
-pub overflow-add-result-2 : goal.overflow-add-result-2
-overflow-add-result-2 t c =
-    let h : c.put-number-last.result < length c.put-number-last.new.row = omega (arith, longer c.args.n (omega arith) (omega arith), c.put-number-last.ensures.ends) in
+pub overflow_add-result-2 : goal.overflow_add-result-2
+overflow_add-result-2 t c =
+    let h : c.put_number-last.result < length c.put_number-last.new.row = omega (arith, longer c.args.n (omega arith) (omega arith), c.put_number-last.ensures.ends) in
     search rules
 
 pub returns : goal.returns
 returns t c =
     rw (decimal_step c.args.n (omega arith) (omega arith))
-    (then c.put-number-last.ensures (byte _ _ _ (omega (arith, longer c.args.n (omega arith) (omega arith), c.put-number-last.ensures.ends))))
+    (then c.put_number-last.ensures (byte _ _ _ (omega (arith, longer c.args.n (omega arith) (omega arith), c.put_number-last.ensures.ends))))

@@ -17,22 +17,22 @@ positive (negsuc m) n h e = absurd (omega (arith, ints))
 short : (n : ℕ) → n ≤ 2 ^ 63 → length (decimal n) ≤ 19
 short n h = length-decimal-le 19 n (omega arith) (omega arith) (omega arith)
 
-pub put-number-requires : goal.put-number-requires
-put-number-requires c = omega (arith, short c.unsigned-abs-n.result c.unsigned-abs-n.ensures.bound)
+pub put_number-requires : goal.put_number-requires
+put_number-requires c = omega (arith, short c.unsigned_abs-n.result c.unsigned_abs-n.ensures.bound)
 
-pub put-number-requires-2 : goal.put-number-requires-2
-put-number-requires-2 c = omega (arith, length-set c.args.row.now 0 45, short c.unsigned-abs-n.result c.unsigned-abs-n.ensures.bound)
+pub put_number-requires-2 : goal.put_number-requires-2
+put_number-requires-2 c = omega (arith, length-set c.args.row.now 0 45, short c.unsigned_abs-n.result c.unsigned_abs-n.ensures.bound)
 
 pub returns-then-z-ge0 : goal.returns-then-z-ge0
 returns-then-z-ge0 c =
     let f = c.ranges.z in
-    let v : c.unsigned-abs-n.result ≡ nat_abs c.args.z = simp to_z-of_z at c.unsigned-abs-n.ensures.value in
+    let v : c.unsigned_abs-n.result ≡ nat_abs c.args.z = simp to_z-of_z at c.unsigned_abs-n.ensures.value in
     let p : pos 0 ≤ℤ c.args.z = omega (arith, ints) in
-    rw (positive c.args.z c.unsigned-abs-n.result p v) c.put-number.ensures
+    rw (positive c.args.z c.unsigned_abs-n.result p v) c.put_number.ensures
 
 pub returns : goal.returns
 returns c =
     let f = c.ranges.z in
-    let v : c.unsigned-abs-n.result ≡ nat_abs c.args.z = simp to_z-of_z at c.unsigned-abs-n.ensures.value in
+    let v : c.unsigned_abs-n.result ≡ nat_abs c.args.z = simp to_z-of_z at c.unsigned_abs-n.ensures.value in
     let p : c.args.z <ℤ pos 0 = omega (arith, ints) in
-    rw (negative c.args.z c.unsigned-abs-n.result p v) (then (byte _ _ _ (omega arith)) c.put-number-2.ensures)
+    rw (negative c.args.z c.unsigned_abs-n.result p v) (then (byte _ _ _ (omega arith)) c.put_number-2.ensures)

@@ -9,5 +9,5 @@ unsaturated (negsuc n) f = ap negsuc (omega (arith, f.sfits))
 
 pub returns : goal.returns
 returns c i j a b reach =
-    let exact = c.saturating-add.ensures ∙ unsaturated _ (omega (arith, ints)) in
+    let exact = c.saturating_add.ensures ∙ unsaturated _ (omega (arith, ints)) in
     (omega (arith, ints), omega (arith, ints))
