@@ -3,15 +3,15 @@ use Rattle.search.proofs.Wiring.{wired}
 use Rattle.search.proofs.Verdicts.{reached, fits_carries}
 use Rattle.search.proofs.carries.carry.Goals as goal
 
-pub all-carried-requires : goal.all-carried-requires
-all-carried-requires g c =
+pub all_carried-requires : goal.all_carried-requires
+all_carried-requires g c =
     let z = wired (length c.args.up.now) (length c.args.links.now) c.args.links.now (omega arith) c.requires.sound in
     let b : length c.args.up.now ≤ length c.args.row.now = c.requires.sizes.1 in
     record {
       small = c.requires.small;
-      size = omega (arith, c.settle-all.auto.row);
+      size = omega (arith, c.settle_all.auto.row);
       sound = c.requires.sound;
-      near = reached g.K.Kind.meaning c.args.links.now (length c.args.up.now) c.args.up.now c.settle-all.new.row z c.requires.forest c.settle-all.ensures c.requires.small;
+      near = reached g.K.Kind.meaning c.args.links.now (length c.args.up.now) c.args.up.now c.settle_all.new.row z c.requires.forest c.settle_all.ensures c.requires.small;
     }
 
 pub returns : goal.returns
@@ -19,8 +19,8 @@ returns g c =
     let z = wired (length c.args.up.now) (length c.args.links.now) c.args.links.now (omega arith) c.requires.sound in
     let b : length c.args.up.now ≤ length c.args.row.now = c.requires.sizes.1 in
     record {
-      placed = c.settle-all.ensures;
-      near = reached g.K.Kind.meaning c.args.links.now (length c.args.up.now) c.args.up.now c.settle-all.new.row z c.requires.forest c.settle-all.ensures c.requires.small;
-      yes = c.all-carried.ensures.yes;
-      no = λ h. c.all-carried.ensures.no (fits_carries g.K.Kind.meaning c.args.links.now (length c.args.up.now) c.args.up.now c.settle-all.new.row z c.requires.forest c.settle-all.ensures (omega (arith, c.settle-all.auto.row)) h);
+      placed = c.settle_all.ensures;
+      near = reached g.K.Kind.meaning c.args.links.now (length c.args.up.now) c.args.up.now c.settle_all.new.row z c.requires.forest c.settle_all.ensures c.requires.small;
+      yes = c.all_carried.ensures.yes;
+      no = λ h. c.all_carried.ensures.no (fits_carries g.K.Kind.meaning c.args.links.now (length c.args.up.now) c.args.up.now c.settle_all.new.row z c.requires.forest c.settle_all.ensures (omega (arith, c.settle_all.auto.row)) h);
     }

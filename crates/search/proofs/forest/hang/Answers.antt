@@ -27,24 +27,24 @@ start_on g k n z (Backward p) a b = (z p a b).1
 at_start : (g : Graph) (k n : ℕ) → Wired g (suc k) n → (s t : Step) (i : ℕ) → place s ≡ k + 1 → t ≡ reverse s → i ≡ end g t → (i ≡ start g s) × On n i
 at_start g k n z s t i h q e = let r : i ≡ start g s = e ∙ end_turned g s t q in (r, subst (On n) (sym r) (start_on g (suc k) n z s (omega arith) (omega arith)))
 
-pub far-end-i-requires : goal.far-end-i-requires
-far-end-i-requires g c = let e = place_turned c.args.s c.reversed.result c.reversed.ensures in record { low = omega (arith, c.requires.next); high = omega (arith, c.requires.next, c.requires.room) }
+pub far_end-i-requires : goal.far_end-i-requires
+far_end-i-requires g c = let e = place_turned c.args.s c.reversed.result c.reversed.ensures in record { low = omega (arith, c.requires.next); high = omega (arith, c.requires.next, c.requires.room) }
 
 pub reroot-requires : goal.reroot-requires
 reroot-requires g c =
     let z = wired (length c.args.up.now) (suc c.args.k) c.args.links.now (omega (arith, c.requires.room)) c.requires.sound in
-    let a = at_start (graph_of c.args.links.now) c.args.k (length c.args.up.now) z c.args.s c.reversed.result c.far-end-i.result c.requires.next c.reversed.ensures c.far-end-i.ensures in
+    let a = at_start (graph_of c.args.links.now) c.args.k (length c.args.up.now) z c.args.s c.reversed.result c.far_end-i.result c.requires.next c.reversed.ensures c.far_end-i.ensures in
     record { forest = c.requires.forest; sound = c.requires.sound; count = omega (arith, c.requires.room); few = omega (arith, c.requires.few); inside = a.1 }
 
-pub overflow-sub-up : goal.overflow-sub-up
-overflow-sub-up g c =
+pub overflow_sub-up : goal.overflow_sub-up
+overflow_sub-up g c =
     let z = wired (length c.args.up.now) (suc c.args.k) c.args.links.now (omega (arith, c.requires.room)) c.requires.sound in
-    (at_start (graph_of c.args.links.now) c.args.k (length c.args.up.now) z c.args.s c.reversed.result c.far-end-i.result c.requires.next c.reversed.ensures c.far-end-i.ensures).1.0
+    (at_start (graph_of c.args.links.now) c.args.k (length c.args.up.now) z c.args.s c.reversed.result c.far_end-i.result c.requires.next c.reversed.ensures c.far_end-i.ensures).1.0
 
 pub bounds-up-i : goal.bounds-up-i
 bounds-up-i g c =
     let z = wired (length c.args.up.now) (suc c.args.k) c.args.links.now (omega (arith, c.requires.room)) c.requires.sound in
-    let a = at_start (graph_of c.args.links.now) c.args.k (length c.args.up.now) z c.args.s c.reversed.result c.far-end-i.result c.requires.next c.reversed.ensures c.far-end-i.ensures in
+    let a = at_start (graph_of c.args.links.now) c.args.k (length c.args.up.now) z c.args.s c.reversed.result c.far_end-i.result c.requires.next c.reversed.ensures c.far_end-i.ensures in
     omega (arith, a.1.0, a.1.1)
 
 -- the forest after the write, over plain values
@@ -57,5 +57,5 @@ hung g k n row s i w e f h q o r d a =
 pub returns : goal.returns
 returns g c =
     let z = wired (length c.args.up.now) (suc c.args.k) c.args.links.now (omega (arith, c.requires.room)) c.requires.sound in
-    let a = at_start (graph_of c.args.links.now) c.args.k (length c.args.up.now) z c.args.s c.reversed.result c.far-end-i.result c.requires.next c.reversed.ensures c.far-end-i.ensures in
-    hung (graph_of c.args.links.now) c.args.k (length c.args.up.now) c.reroot.new.up c.args.s c.far-end-i.result c.word-of.result (omega arith) c.reroot.ensures.still c.requires.next a.0 a.1 c.reroot.ensures.root c.word-of.ensures.back c.requires.apart
+    let a = at_start (graph_of c.args.links.now) c.args.k (length c.args.up.now) z c.args.s c.reversed.result c.far_end-i.result c.requires.next c.reversed.ensures c.far_end-i.ensures in
+    hung (graph_of c.args.links.now) c.args.k (length c.args.up.now) c.reroot.new.up c.args.s c.far_end-i.result c.word_of.result (omega arith) c.reroot.ensures.still c.requires.next a.0 a.1 c.reroot.ensures.root c.word_of.ensures.back c.requires.apart

@@ -11,13 +11,13 @@ use Rattle.search.proofs.forest.reroot.Goals as goal
 pub loop-s-init : goal.loop-s-init
 loop-s-init g c = (begin (graph_of c.args.links.now) c.args.count (parents c.args.up.now) c.args.i c.requires.forest, c.requires.inside, same (graph_of c.args.links.now) (Upto c.args.count) c.args.i c.args.i refl, λ v d. refl)
 
-pub word-of-hang-requires : goal.word-of-hang-requires
-word-of-hang-requires g c =
+pub word_of-hang-requires : goal.word_of-hang-requires
+word_of-hang-requires g c =
     let z = wired (length c.args.up.now) c.args.count c.args.links.now c.requires.count c.requires.sound in
     low_turned (graph_of c.args.links.now) c.args.count (length c.args.up.now) z c.requires.few c.args.i c.loop-s.up c.loop-s.auto.up c.loop-s.x c.loop-s.hang c.loop-s.invariant.0 c.loop-s.invariant.1 c.in-Some.s c.reversed.result c.in-Some.ensures c.reversed.ensures
 
-pub far-end-x-requires : goal.far-end-x-requires
-far-end-x-requires g c =
+pub far_end-x-requires : goal.far_end-x-requires
+far_end-x-requires g c =
     let z = wired (length c.args.up.now) c.args.count c.args.links.now c.requires.count c.requires.sound in
     let j = joining_here (graph_of c.args.links.now) c.args.count (length c.args.up.now) z c.requires.few c.args.i c.loop-s.up c.loop-s.auto.up c.loop-s.x c.loop-s.hang c.loop-s.invariant.0 c.loop-s.invariant.1 c.in-Some.s c.in-Some.ensures in
     record { low = j.0; high = omega (arith, j.1, c.requires.count) }
@@ -25,20 +25,20 @@ far-end-x-requires g c =
 pub loop-s-smaller : goal.loop-s-smaller
 loop-s-smaller g c =
     let z = wired (length c.args.up.now) c.args.count c.args.links.now c.requires.count c.requires.sound in
-    row_fewer (graph_of c.args.links.now) c.args.count (length c.args.up.now) z c.requires.few c.args.i c.loop-s.up c.loop-s.auto.up c.loop-s.x c.loop-s.hang c.loop-s.invariant.0 c.loop-s.invariant.1 c.in-Some.s c.far-end-x.result c.in-Some.ensures c.far-end-x.ensures
+    row_fewer (graph_of c.args.links.now) c.args.count (length c.args.up.now) z c.requires.few c.args.i c.loop-s.up c.loop-s.auto.up c.loop-s.x c.loop-s.hang c.loop-s.invariant.0 c.loop-s.invariant.1 c.in-Some.s c.far_end-x.result c.in-Some.ensures c.far_end-x.ensures
 
 pub loop-s-preserved : goal.loop-s-preserved
 loop-s-preserved g c =
     let z = wired (length c.args.up.now) c.args.count c.args.links.now c.requires.count c.requires.sound in
-    let a = row_again (graph_of c.args.links.now) c.args.count (length c.args.up.now) z c.requires.few c.args.i c.loop-s.up c.loop-s.auto.up c.loop-s.x c.loop-s.hang c.loop-s.invariant.0 c.loop-s.invariant.1 c.in-Some.s c.reversed.result c.word-of-hang.result c.far-end-x.result c.in-Some.ensures c.reversed.ensures c.word-of-hang.ensures.back c.far-end-x.ensures in (
+    let a = row_again (graph_of c.args.links.now) c.args.count (length c.args.up.now) z c.requires.few c.args.i c.loop-s.up c.loop-s.auto.up c.loop-s.x c.loop-s.hang c.loop-s.invariant.0 c.loop-s.invariant.1 c.in-Some.s c.reversed.result c.word_of-hang.result c.far_end-x.result c.in-Some.ensures c.reversed.ensures c.word_of-hang.ensures.back c.far_end-x.ensures in (
       a.0,
       a.1,
-      row_near (graph_of c.args.links.now) c.args.count (length c.args.up.now) z c.requires.few c.args.i c.loop-s.up c.loop-s.auto.up c.loop-s.x c.loop-s.hang c.loop-s.invariant.0 c.loop-s.invariant.1 c.loop-s.invariant.2 c.in-Some.s c.far-end-x.result c.in-Some.ensures c.far-end-x.ensures,
+      row_near (graph_of c.args.links.now) c.args.count (length c.args.up.now) z c.requires.few c.args.i c.loop-s.up c.loop-s.auto.up c.loop-s.x c.loop-s.hang c.loop-s.invariant.0 c.loop-s.invariant.1 c.loop-s.invariant.2 c.in-Some.s c.far_end-x.result c.in-Some.ensures c.far_end-x.ensures,
       λ u d. row_others (graph_of c.args.links.now) c.args.count (length c.args.up.now) z c.requires.few c.args.i c.loop-s.up c.loop-s.auto.up c.loop-s.x c.loop-s.hang c.loop-s.invariant.0 c.loop-s.invariant.1 c.loop-s.invariant.2 u d ∙ c.loop-s.invariant.3 u d,
     )
 
 pub returns : goal.returns
 returns g c =
     let z = wired (length c.args.up.now) c.args.count c.args.links.now c.requires.count c.requires.sound in
-    let r = row_done (graph_of c.args.links.now) c.args.count (length c.args.up.now) z c.requires.few c.args.i c.loop-s.up c.loop-s.auto.up c.loop-s.x c.loop-s.hang c.loop-s.invariant.0 c.loop-s.invariant.1 c.in-default.ensures in
+    let r = row_done (graph_of c.args.links.now) c.args.count (length c.args.up.now) z c.requires.few c.args.i c.loop-s.up c.loop-s.auto.up c.loop-s.x c.loop-s.hang c.loop-s.invariant.0 c.loop-s.invariant.1 c.in_default.ensures in
     record { still = r.0; root = r.1; others = λ u d. row_others (graph_of c.args.links.now) c.args.count (length c.args.up.now) z c.requires.few c.args.i c.loop-s.up c.loop-s.auto.up c.loop-s.x c.loop-s.hang c.loop-s.invariant.0 c.loop-s.invariant.1 c.loop-s.invariant.2 u d ∙ c.loop-s.invariant.3 u d }

@@ -7,8 +7,8 @@ use Rattle.search.specs.Rooted.{First}
 use Rattle.search.proofs.Differences.{all_grounded}
 use Rattle.search.proofs.known.grounded.Goals as goal
 
-pub root-lowest-requires : goal.root-lowest-requires
-root-lowest-requires g c =
+pub root_lowest-requires : goal.root_lowest-requires
+root_lowest-requires g c =
     let e : length c.join.new.up ≡ length c.args.up.now = c.join.auto.up in
     record {
       sound = subst (λ n. Sound n c.args.links.now) (sym e) c.requires.sound;
@@ -21,23 +21,23 @@ root-lowest-requires g c =
 
 pub carry-requires : goal.carry-requires
 carry-requires g c =
-    let e : length c.root-lowest.new.up ≡ length c.args.up.now = c.root-lowest.auto.up ∙ c.join.auto.up in
+    let e : length c.root_lowest.new.up ≡ length c.args.up.now = c.root_lowest.auto.up ∙ c.join.auto.up in
     record {
-      forest = c.root-lowest.ensures.still;
+      forest = c.root_lowest.ensures.still;
       sound = subst (λ n. Sound n c.args.links.now) (sym e) c.requires.sound;
       small = omega (arith, c.requires.small);
-      sizes = (omega (arith, c.requires.sizes.0, c.root-lowest.auto.marks), omega (arith, c.requires.sizes.1), omega (arith, c.requires.sizes.2, c.join.auto.ranks));
+      sizes = (omega (arith, c.requires.sizes.0, c.root_lowest.auto.marks), omega (arith, c.requires.sizes.1), omega (arith, c.requires.sizes.2, c.join.auto.ranks));
     }
 
 pub returns : goal.returns
 returns g c =
     let j : length c.join.new.up ≡ length c.args.up.now = c.join.auto.up in
-    let e : length c.root-lowest.new.up ≡ length c.args.up.now = c.root-lowest.auto.up ∙ j in
+    let e : length c.root_lowest.new.up ≡ length c.args.up.now = c.root_lowest.auto.up ∙ j in
     let b : length c.args.up.now ≤ length c.args.row.now = c.requires.sizes.1 in
     record {
       torn = λ z h. both_ways c.carry.result z (c.carry.ensures.no h);
-      offsets = λ h. all_grounded g.K.Kind.meaning c.args.links.now (length c.args.up.now) c.root-lowest.new.up c.carry.new.row (omega (arith, c.carry.auto.row))
+      offsets = λ h. all_grounded g.K.Kind.meaning c.args.links.now (length c.args.up.now) c.root_lowest.new.up c.carry.new.row (omega (arith, c.carry.auto.row))
           (λ v o. c.carry.ensures.placed v (subst (λ n. On n v) (sym e) o))
-          c.join.new.labels c.join.ensures.labelled (λ v f. c.root-lowest.ensures.roots v (subst (λ n. First n c.join.new.labels v) (sym j) f)) (c.carry.ensures.yes h)
+          c.join.new.labels c.join.ensures.labelled (λ v f. c.root_lowest.ensures.roots v (subst (λ n. First n c.join.new.labels v) (sym j) f)) (c.carry.ensures.yes h)
           (subst (λ n. Reached g.K.Kind.meaning n c.carry.new.row) e c.carry.ensures.near);
     }

@@ -8,8 +8,8 @@ use Rattle.search.proofs.lowest.root_lowest.Goals as goal
 pub loop-i-init : goal.loop-i-init
 loop-i-init g c = none_passed (graph_of c.args.links.now) (length c.args.links.now) (length c.args.up.now) c.args.labels.now c.wipe.new.marks c.args.up.now c.requires.joined.forest c.wipe.ensures
 
-pub root-next-requires : goal.root-next-requires
-root-next-requires g c =
+pub root_next-requires : goal.root_next-requires
+root_next-requires g c =
     let e : length c.loop-i.up ≡ length c.args.up.now = c.loop-i.auto.up in
     record {
       sound = subst (λ n. Sound n c.args.links.now) (sym e) c.requires.sound;
@@ -24,7 +24,7 @@ root-next-requires g c =
     }
 
 pub loop-i-preserved : goal.loop-i-preserved
-loop-i-preserved g c = subst (λ n. Rooted (graph_of c.args.links.now) (length c.args.links.now) n c.args.labels.now c.root-next.new.marks c.root-next.new.up (c.loop-i.i + 1)) c.loop-i.auto.up c.root-next.ensures
+loop-i-preserved g c = subst (λ n. Rooted (graph_of c.args.links.now) (length c.args.links.now) n c.args.labels.now c.root_next.new.marks c.root_next.new.up (c.loop-i.i + 1)) c.loop-i.auto.up c.root_next.ensures
 
 pub returns : goal.returns
 returns g c = record { still = c.loop-i.invariant.forest; roots = λ v f. c.loop-i.invariant.roots v f (omega (arith, f.0.1, c.requires.same)) }

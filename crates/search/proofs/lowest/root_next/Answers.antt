@@ -3,8 +3,8 @@ use Rattle.search.specs.Records.{graph_of}
 use Rattle.search.proofs.Rooting.{passed, room, met_first}
 use Rattle.search.proofs.lowest.root_next.Goals as goal
 
-pub overflow-sub-group : goal.overflow-sub-group
-overflow-sub-group g c = (room (graph_of c.args.links.now) (length c.args.links.now) (length c.args.up.now) c.args.labels.now c.args.marks.now c.args.up.now c.args.i c.requires.next c.requires.rooted (get_or c.args.labels.now c.args.i 0) refl c.requires.inside c.requires.size).0
+pub overflow_sub-group : goal.overflow_sub-group
+overflow_sub-group g c = (room (graph_of c.args.links.now) (length c.args.links.now) (length c.args.up.now) c.args.labels.now c.args.marks.now c.args.up.now c.args.i c.requires.next c.requires.rooted (get_or c.args.labels.now c.args.i 0) refl c.requires.inside c.requires.size).0
 
 pub bounds-marks-group : goal.bounds-marks-group
 bounds-marks-group g c = (room (graph_of c.args.links.now) (length c.args.links.now) (length c.args.up.now) c.args.labels.now c.args.marks.now c.args.up.now c.args.i c.requires.next c.requires.rooted (get_or c.args.labels.now c.args.i 0) refl c.requires.inside c.requires.size).1

@@ -25,5 +25,5 @@ returns g c =
       done = marked c.args.marks.now (c.args.w - 1) l;
     }
 
-pub returns-in-default : goal.returns-in-default
-returns-in-default g c = absurd (clash (parents c.args.up.now c.args.w) c.requires.above.0 c.requires.above.1 (ups_at c.args.up.now c.args.w c.requires.w.0 ∙ sym c.in-default.ensures))
+pub returns-in_default : goal.returns-in_default
+returns-in_default g c = absurd (clash (parents c.args.up.now c.args.w) c.requires.above.0 c.requires.above.1 (ups_at c.args.up.now c.args.w c.requires.w.0 ∙ sym c.in_default.ensures))

@@ -7,8 +7,8 @@ use Rattle.search.proofs.offsets.settle.Goals as goal
 pub loop-top-init : goal.loop-top-init
 loop-top-init g c = (c.rise-top.ensures.room, c.rise-top.ensures.chain, c.rise-top.ensures.first, c.ground.ensures.settled, λ u h. h, c.ground.ensures.done)
 
-pub hand-down-requires : goal.hand-down-requires
-hand-down-requires g c =
+pub hand_down-requires : goal.hand_down-requires
+hand_down-requires g c =
     let a : length c.args.up.now ≤ length c.args.marks.now = c.requires.sizes.0 in
     let b : length c.args.up.now ≤ length c.args.row.now = c.requires.sizes.1 in
     let t : 1 ≤ c.loop-top.top = omega arith in
@@ -30,9 +30,9 @@ loop-top-preserved g c = (
   omega (arith, c.loop-top.invariant.0),
   shorter (graph_of c.args.links.now) (length c.args.up.now) c.args.up.now c.rise-top.new.stack c.loop-top.top c.loop-top.invariant.1,
   c.loop-top.invariant.2,
-  c.hand-down.ensures.settled,
-  λ u h. c.hand-down.ensures.kept u (c.loop-top.invariant.4 u h),
-  c.hand-down.ensures.done,
+  c.hand_down.ensures.settled,
+  λ u h. c.hand_down.ensures.kept u (c.loop-top.invariant.4 u h),
+  c.hand_down.ensures.done,
 )
 
 pub returns : goal.returns

@@ -3,11 +3,11 @@ use Rattle.search.specs.Records.{Sound, On, graph_of}
 use Rattle.search.specs.Joined.{Joined}
 use Rattle.search.proofs.verdict.judge.Goals as goal
 
-pub returns-then-fits-with : goal.returns-then-fits-with
-returns-then-fits-with g c = record { short = tt; verdict = (c.fits-with.ensures.yes c.if-fits-with.true, refl) }
+pub returns-then-fits_with : goal.returns-then-fits_with
+returns-then-fits_with g c = record { short = tt; verdict = (c.fits_with.ensures.yes c.if-fits_with.true, refl) }
 
-pub way-back-requires : goal.way-back-requires
-way-back-requires g c =
+pub way_back-requires : goal.way_back-requires
+way_back-requires g c =
     let e : length c.survey-agree.new.up ≡ length c.args.up.now = c.survey-agree.auto.up in
     let a : length c.survey-agree.new.labels ≡ length c.args.labels.now = c.survey-agree.auto.labels in
     record {
