@@ -8,8 +8,8 @@ use Rattle.schedule.proofs.cycle.write_loop.Goals as goal
 pub loop-t-init : goal.loop-t-init
 loop-t-init g c = (c.requires.inside, unwritten (graph_of c.args.links.now) (entry c.args.preds.now) c.args.u c.args.m c.args.steps.now)
 
-pub overflow-add-steps : goal.overflow-add-steps
-overflow-add-steps g c =
+pub overflow_add-steps : goal.overflow_add-steps
+overflow_add-steps g c =
     let z = wired c.args.n (length c.args.links.now) c.args.links.now (omega arith) c.requires.sound in
     let q = ahead (graph_of c.args.links.now) (entry c.args.preds.now) c.args.u c.args.m c.args.steps.now (length c.args.links.now) c.args.n z c.requires.traced c.loop-t.steps c.loop-t.t c.loop-t.x c.loop-t.invariant.1 c.loop-t-test.true in
     omega (arith, q.1, c.requires.few)

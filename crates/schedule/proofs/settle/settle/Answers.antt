@@ -31,13 +31,13 @@ round-requires g c =
     }
 
 pub loop-k-preserved : goal.loop-k-preserved
-loop-k-preserved g c = (c.round.ensures.near, c.round.ensures.after, c.in-ok-raised.ensures.raised)
+loop-k-preserved g c = (c.round.ensures.near, c.round.ensures.after, c.in_ok-raised.ensures.raised)
 
-pub returns-in-err-raised : goal.returns-in-err-raised
-returns-in-err-raised g c =
+pub returns-in_err-raised : goal.returns-in_err-raised
+returns-in_err-raised g c =
     let M = g.K.Kind.meaning in
     let near : Near M c.args.n c.args.n c.round.new.row = λ v o t. M.wider (c.loop-k.k + 1) c.args.n (get_or c.round.new.row (v - 1) t) (omega arith) (c.round.ensures.near v o t) in
-    rw c.from-residual.ensures (record { near = near; least = (c.in-err-raised.ensures.raised, c.round.ensures.after.least); raised = tt })
+    rw c.from_residual.ensures (record { near = near; least = (c.in_err-raised.ensures.raised, c.round.ensures.after.least); raised = tt })
 
 pub returns : goal.returns
 returns g c =
