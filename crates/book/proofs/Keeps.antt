@@ -1,5 +1,5 @@
 -- One record taken out, or one put at the end: what stands then, and that the invariants stay.
-use Rattle.std.proofs.Common.{◌≡◌, ℕ, zero, suc, ◌+◌, ◌-◌, ◌<◌, ◌≤◌, min, Bool, ◌≢◌, List, [], ◌∷◌, ◌++◌, map, length, get_or, take, drop, set, sym, refl, ap, ◌∙◌, subst, ⊎_elim, zero_le, arith, length-set}
+use Rattle.std.proofs.Common.{◌≡◌, ℕ, zero, suc, ◌+◌, ◌-◌, ◌<◌, ◌≤◌, min, Bool, ◌≢◌, List, [], ◌∷◌, ◌++◌, map, length, get_or, take, drop, set, sym, refl, ap, ◌∙◌, subst, ⊎_elim, zero-le, arith, length-set}
 use mathlib.Core.List.{map-append}
 use lib.ListN.{length-map}
 use Rattle.std.specs.List.{remove}
@@ -37,7 +37,7 @@ module _ {L : Type 0} where
       h a.0 b.0 d (less, b.1, sym (ap (λ z. z.from) (a.6 d)) ∙ e.2 ∙ ap (λ z. z.from) (b.6 d), sym (ap (λ z. z.to) (a.6 d)) ∙ e.3 ∙ ap (λ z. z.to) (b.6 d))
 
   pub sound-push : (n : ℕ) (xs : List (Link L)) (y : Link L) → Sound n xs → Good n y → Sound n (xs ++ y ∷ [])
-  sound-push n xs y h g = λ k lt d. AllWithin-push (Good n) xs y (λ k d _ lt. h k lt d) g k d zero_le lt
+  sound-push n xs y h g = λ k lt d. AllWithin-push (Good n) xs y (λ k d _ lt. h k lt d) g k d zero-le lt
 
   pub single-push : (xs : List (Link L)) (y : Link L) → Single xs → Nowhere (Joins y.from y.to) xs → Single (xs ++ y ∷ [])
   single-push xs y h none = λ j k d e.

@@ -19,7 +19,7 @@ returns-in-Err g c =
     let left = c.link.new.steps in
     let steps = steps_of (take shown left) in
     let answer : Answer M.quantities.Q = refused c.in-Err.refused.refusal steps in
-    let m : M.latency c.latency.result ≡ quantity M new.decreases = search rules in
+    let m : M.latency c.latency.result ≡ quantity M new.measured = search rules in
     let w : M.latency c.latency-2.result ≡ quantity M new.wanted = search rules in
     record {
       answer = answer;

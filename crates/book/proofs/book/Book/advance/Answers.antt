@@ -7,8 +7,8 @@ use Rattle.book.proofs.Walks.{stands_upto, upto_stands, link_is, near_is, far_is
 use Rattle.book.proofs.book.Book.advance.Goals as goal
 use Rattle.book.proofs.book.Book.advance.Goals.{else-done-gt0-via-then-done-gt0+else-leg-trip, else-done-gt0-via-else-done-gt0}
 
-pub returns-in-default : goal.returns-in-default
-returns-in-default g c = λ ws len lt k. inl (refl, λ e. c.in-default.ensures e.0 e.1.0 (upto_stands g.K.Kind.meaning c.args.self.now.store c.args.self.now.held.0 _ e.1.1))
+pub returns-in_default : goal.returns-in_default
+returns-in_default g c = λ ws len lt k. inl (refl, λ e. c.in_default.ensures e.0 e.1.0 (upto_stands g.K.Kind.meaning c.args.self.now.store c.args.self.now.held.0 _ e.1.1))
 
 pub returns-then-leg-trip : goal.returns-then-leg-trip
 returns-then-leg-trip g c = λ ws len lt k.
@@ -17,7 +17,7 @@ returns-then-leg-trip g c = λ ws len lt k.
     let st = c.in-Some.step in
     let n = c.in-Some.ensures in
     let u = stands_upto M s c.args.self.now.held.0 (place st) n.1 in
-    let e = link_is M s (place st) u c.get.result (λ d. c.get.ensures d ∙ ap (λ z. get_or (records s) (z - 1) d) c.place-of.ensures) in
+    let e = link_is M s (place st) u c.get.result (λ d. c.get.ensures d ∙ ap (λ z. get_or (records s) (z - 1) d) c.place_of.ensures) in
     inr (refl, omega arith, (st, (n.0, u), λ h. c.if-leg-trip.true (c.pass-leg.ensures.start ∙ near_is M (state_of M s) st c.get.result e ∙ h)))
 
 pub returns : goal.returns
@@ -27,7 +27,7 @@ returns g c = λ ws len lt k.
     let st = c.in-Some.step in
     let n = c.in-Some.ensures in
     let u = stands_upto M s c.args.self.now.held.0 (place st) n.1 in
-    let e = link_is M s (place st) u c.get.result (λ d. c.get.ensures d ∙ ap (λ z. get_or (records s) (z - 1) d) c.place-of.ensures) in
+    let e = link_is M s (place st) u c.get.result (λ d. c.get.ensures d ∙ ap (λ z. get_or (records s) (z - 1) d) c.place_of.ensures) in
     let l = c.pass-leg.ensures in
     let m = c.sum.ensures (length ws) 1 k.low l.low (omega arith) in
     let w = c.sum-2.ensures (length ws) 1 k.high l.high (omega arith) in
@@ -39,6 +39,6 @@ returns g c = λ ws len lt k.
     ] in
     walk_on M (state_of M s) ws c.args.word st c.args.trip _ k (n.0, u) from
     (l.end ∙ far_is M (state_of M s) st c.get.result e)
-    (m.0 ∙ ap (plus (M.total c.args.trip.measured)) (l.measured ∙ ap (λ z. signed M.quantities st z.decreases) (sym e)))
+    (m.0 ∙ ap (plus (M.total c.args.trip.measured)) (l.measured ∙ ap (λ z. signed M.quantities st z.measured) (sym e)))
     (w.0 ∙ ap (plus (M.total c.args.trip.wanted)) (l.wanted ∙ ap (λ z. signed M.quantities st z.wanted) (sym e)))
     m.1 w.1

@@ -10,34 +10,34 @@ use Rattle.book.proofs.book.Book.check_link.Goals as goal
 pub returns-in-Some : goal.returns-in-Some
 returns-in-Some g c =
     let h = stands g.K.Kind.meaning c.args.self.now.store (Joins c.args.new.from c.args.new.to) c.in-Some.field-0 c.in-Some.ensures in
-    inr (both_ways _ c.if-self.false, inr ((λ f. f (c.is-inside.ensures.yes c.if-not-is-inside.false)), inr (c.if-new.false, inl (refl, (suc c.in-Some.field-0, (h.0, h.1.0, h.1.1)), refl))))
+    inr (both_ways _ c.if-self.false, inr ((λ f. f (c.is_inside.ensures.yes c.if-not-is_inside.false)), inr (c.if-new.false, inl (refl, (suc c.in-Some.field-0, (h.0, h.1.0, h.1.1)), refl))))
 
-pub returns-then-is-full : goal.returns-then-is-full
-returns-then-is-full g c =
-    let h = absent g.K.Kind.meaning c.args.self.now.store (Joins c.args.new.from c.args.new.to) c.in-default.ensures in
+pub returns-then-is_full : goal.returns-then-is_full
+returns-then-is_full g c =
+    let h = absent g.K.Kind.meaning c.args.self.now.store (Joins c.args.new.from c.args.new.to) c.in_default.ensures in
     let len = standing_count g.K.Kind.meaning c.args.self.now.store c.args.self.now.held.0 in
-    let full = c.if-is-full.ensures in
-    inr (both_ways _ c.if-self.false, inr ((λ f. f (c.is-inside.ensures.yes c.if-not-is-inside.false)), inr (c.if-new.false, inr ((λ e. h e.0 e.1.0 (e.1.1, e.1.2)), inl (refl, omega arith, refl)))))
+    let full = c.if-is_full.ensures in
+    inr (both_ways _ c.if-self.false, inr ((λ f. f (c.is_inside.ensures.yes c.if-not-is_inside.false)), inr (c.if-new.false, inr ((λ e. h e.0 e.1.0 (e.1.1, e.1.2)), inl (refl, omega arith, refl)))))
 
-pub returns-then-not-is-enough : goal.returns-then-not-is-enough
-returns-then-not-is-enough g c =
-    let h = absent g.K.Kind.meaning c.args.self.now.store (Joins c.args.new.from c.args.new.to) c.in-default.ensures in
+pub returns-then-not-is_enough : goal.returns-then-not-is_enough
+returns-then-not-is_enough g c =
+    let h = absent g.K.Kind.meaning c.args.self.now.store (Joins c.args.new.from c.args.new.to) c.in_default.ensures in
     let len = standing_count g.K.Kind.meaning c.args.self.now.store c.args.self.now.held.0 in
-    let free = c.if-is-full.ensures in
-    inr (both_ways _ c.if-self.false, inr ((λ f. f (c.is-inside.ensures.yes c.if-not-is-inside.false)), inr (c.if-new.false, inr ((λ e. h e.0 e.1.0 (e.1.1, e.1.2)), inr ((λ e. omega arith), inl (refl, (λ e. both_ways _ c.if-not-is-enough.true (c.is-enough.ensures.no e)), refl))))))
+    let free = c.if-is_full.ensures in
+    inr (both_ways _ c.if-self.false, inr ((λ f. f (c.is_inside.ensures.yes c.if-not-is_inside.false)), inr (c.if-new.false, inr ((λ e. h e.0 e.1.0 (e.1.1, e.1.2)), inr ((λ e. omega arith), inl (refl, (λ e. both_ways _ c.if-not-is_enough.true (c.is_enough.ensures.no e)), refl))))))
 
 pub returns : goal.returns
 returns g c =
-    let h = absent g.K.Kind.meaning c.args.self.now.store (Joins c.args.new.from c.args.new.to) c.in-default.ensures in
+    let h = absent g.K.Kind.meaning c.args.self.now.store (Joins c.args.new.from c.args.new.to) c.in_default.ensures in
     let len = standing_count g.K.Kind.meaning c.args.self.now.store c.args.self.now.held.0 in
-    let free = c.if-is-full.ensures in (
+    let free = c.if-is_full.ensures in (
       record {
         unissued = c.if-self.false;
-        inside = c.is-inside.ensures.yes c.if-not-is-inside.false;
+        inside = c.is_inside.ensures.yes c.if-not-is_inside.false;
         apart = c.if-new.false;
         new = λ e. h e.0 e.1.0 (e.1.1, e.1.2);
         room = omega arith;
-        enough = c.is-enough.ensures.yes c.if-not-is-enough.false;
+        enough = c.is_enough.ensures.yes c.if-not-is_enough.false;
       },
-      c.in-default.ensures,
+      c.in_default.ensures,
     )

@@ -12,28 +12,28 @@ use Rattle.book.specs.Memory.{state_of, rows_of}
 use Rattle.book.proofs.Promise.{answered, refuses}
 use Rattle.book.proofs.book.Book.difference.Goals as goal
 
-pub returns-then-not-is-inside : goal.returns-then-not-is-inside
-returns-then-not-is-inside g c = record {
-  call = refuses _ _ _ _ (inl (refl, (λ e. both_ways _ c.if-not-is-inside.true (c.is-inside.ensures.no e)), refl));
+pub returns-then-not-is_inside : goal.returns-then-not-is_inside
+returns-then-not-is_inside g c = record {
+  call = refuses _ _ _ _ (inl (refl, (λ e. both_ways _ c.if-not-is_inside.true (c.is_inside.ensures.no e)), refl));
   reach = tt;
   rows = record { early = λ _. (refl, refl); totals = refl; numbers = refl };
 }
 
-pub returns-then-not-is-enough : goal.returns-then-not-is-enough
-returns-then-not-is-enough g c = record {
-  call = refuses _ _ _ _ (inr ((λ f. f (c.is-inside.ensures.yes c.if-not-is-inside.false)), inl (refl, (λ e. both_ways _ c.if-not-is-enough.true (c.is-enough.ensures.no e)), refl)));
+pub returns-then-not-is_enough : goal.returns-then-not-is_enough
+returns-then-not-is_enough g c = record {
+  call = refuses _ _ _ _ (inr ((λ f. f (c.is_inside.ensures.yes c.if-not-is_inside.false)), inl (refl, (λ e. both_ways _ c.if-not-is_enough.true (c.is_enough.ensures.no e)), refl)));
   reach = tt;
   rows = record { early = λ _. (refl, refl); totals = refl; numbers = refl };
 }
 
-pub offset-between-requires : goal.offset-between-requires
-offset-between-requires g c =
+pub offset_between-requires : goal.offset_between-requires
+offset_between-requires g c =
     let s = c.args.self.now.store in
     let q : s.count ≡ s.count - 0 = omega arith in
     let h = c.args.self.now.held in
     let len = length-take-le s.count s.links.now h.0 in
-    let e = c.is-enough.ensures.yes c.if-not-is-enough.false in
-    let o = c.is-inside.ensures.yes c.if-not-is-inside.false in
+    let e = c.is_enough.ensures.yes c.if-not-is_enough.false in
+    let o = c.is_inside.ensures.yes c.if-not-is_inside.false in
     record {
       sound = subst (λ m. Sound s.n (take m s.links.now)) q (λ k lt d. let x = c.args.self.now.sound k lt d in (x.0, x.1, x.2, x.3));
       small = h.3;
@@ -53,7 +53,7 @@ returns-in-Torn g c =
     let v = subst (λ m. Tells M (take m s.links.now) s.n c.args.i c.args.j Torn) q e.answer in
     let rows = rows_of c.args.totals.now c.args.numbers.now c.args.steps.now in
     record {
-      call = answered M s s (OFFSET c.args.i c.args.j rows) _ (offset_torn M (state_of M s) c.args.i c.args.j rows (c.is-inside.ensures.yes c.if-not-is-inside.false) (c.is-enough.ensures.yes c.if-not-is-enough.false) v) (unchanged _ _ _);
+      call = answered M s s (OFFSET c.args.i c.args.j rows) _ (offset_torn M (state_of M s) c.args.i c.args.j rows (c.is_inside.ensures.yes c.if-not-is_inside.false) (c.is_enough.ensures.yes c.if-not-is_enough.false) v) (unchanged _ _ _);
       reach = tt;
       rows = record { early = λ x. let z : ◌≡◌ {A = ℕ} 0 1 = ⊎_elim (λ d. cc) (λ d. cc) x in absurd (omega arith); totals = e.totals; numbers = e.numbers };
     }
@@ -66,7 +66,7 @@ returns-in-Apart g c =
     let e = c.in-Apart.ensures in
     let v = subst (λ m. Tells M (take m s.links.now) s.n c.args.i c.args.j Apart) q e.answer in
     let rows = rows_of c.args.totals.now c.args.numbers.now c.args.steps.now in
-    let P : Posed M (state_of M s) c.args.i c.args.j rows = record { inside = c.is-inside.ensures.yes c.if-not-is-inside.false; enough = c.is-enough.ensures.yes c.if-not-is-enough.false; fits = v.0 } in
+    let P : Posed M (state_of M s) c.args.i c.args.j rows = record { inside = c.is_inside.ensures.yes c.if-not-is_inside.false; enough = c.is_enough.ensures.yes c.if-not-is_enough.false; fits = v.0 } in
     record {
       call = answered M s s (OFFSET c.args.i c.args.j rows) _ (offset_apart M (state_of M s) c.args.i c.args.j rows P v.1) (unchanged _ _ _);
       reach = tt;
@@ -82,7 +82,7 @@ returns-in-Known g c =
     let t = c.in-Known.t in
     let v = subst (λ m. Tells M (take m s.links.now) s.n c.args.i c.args.j (Known t)) q e.answer in
     let rows = rows_of c.args.totals.now c.args.numbers.now c.args.steps.now in
-    let P : Posed M (state_of M s) c.args.i c.args.j rows = record { inside = c.is-inside.ensures.yes c.if-not-is-inside.false; enough = c.is-enough.ensures.yes c.if-not-is-enough.false; fits = v.0 } in
+    let P : Posed M (state_of M s) c.args.i c.args.j rows = record { inside = c.is_inside.ensures.yes c.if-not-is_inside.false; enough = c.is_enough.ensures.yes c.if-not-is_enough.false; fits = v.0 } in
     record {
       call = answered M s s (OFFSET c.args.i c.args.j rows) (total (M.total t)) (offset_known M (state_of M s) c.args.i c.args.j rows P v.1 (M.total t) v.2) (by_offset c.args.i c.args.j rows (M.total t));
       reach = v.3;

@@ -30,12 +30,12 @@ returns-in-Some g c =
     let rows = rows_of c.args.totals.now c.args.numbers.now c.args.steps.now in
     let few : length (state_of M s).links ≤ 8192 = omega (arith, standing_count M s c.args.self.now.held.0, c.args.self.now.held.1) in
     let e = told M.quantities (state_of M s).links l c.args.steps.now row' m v.1.0 few v.1.1 v.1.2 in
-    let enough = c.in-default.ensures.0.enough in
+    let enough = c.in_default.ensures.0.enough in
     let n : m ≤ s.n = c.in-Some.ensures.short in
     let kept : length row' ≡ length c.args.steps.now = c.judge.auto.steps in
     record {
       call = answered M s s (LINK l rows) (refused Contradicts (steps_of (take m row')))
-          (subst (λ ts. Right M (state_of M s) (LINK l rows) (refused Contradicts ts)) (sym e) (judged M (state_of M s) l rows c.in-default.ensures.0 v.0 v.1.0 v.1.1))
+          (subst (λ ts. Right M (state_of M s) (LINK l rows) (refused Contradicts ts)) (sym e) (judged M (state_of M s) l rows c.in_default.ensures.0 v.0 v.1.0 v.1.1))
           (unchanged _ _ _);
       kept = refl;
       records = refl;
@@ -52,7 +52,7 @@ returns-in-Some g c =
 
 pub append-requires : goal.append-requires
 append-requires g c =
-    let p = c.in-default.ensures in
+    let p = c.in_default.ensures in
     let i = p.0.inside in
     let r = p.0.room in
     record {
@@ -67,10 +67,10 @@ returns g c =
     let s = c.args.self.now.store in
     let t = c.append.new.self.store in
     let l = link_of M c.args.new in
-    let v = c.in-default-judge.ensures.verdict in
+    let v = c.in_default-judge.ensures.verdict in
     let rows = rows_of c.args.totals.now c.args.numbers.now c.args.steps.now in
     record {
-      call = answered M s t (LINK l rows) done (fitting M (state_of M s) l rows c.in-default.ensures.0 v.0)
+      call = answered M s t (LINK l rows) done (fitting M (state_of M s) l rows c.in_default.ensures.0 v.0)
           (subst (Next M (state_of M s) (LINK l rows) done) (sym c.append.ensures.state) (by_link l rows));
       kept = tt;
       records = c.append.ensures.records;

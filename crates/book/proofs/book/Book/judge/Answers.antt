@@ -4,8 +4,8 @@ use Rattle.search.specs.Records.{Sound, link_of}
 use Rattle.search.specs.Verdict.{Judged}
 use Rattle.book.proofs.book.Book.judge.Goals as goal
 
-pub link-verdict-requires : goal.link-verdict-requires
-link-verdict-requires g c =
+pub link_verdict-requires : goal.link_verdict-requires
+link_verdict-requires g c =
     let s = c.args.self.now.store in
     let q : s.count ≡ s.count - 0 = omega arith in
     let h = c.args.self.now.held in
@@ -27,8 +27,8 @@ returns g c =
     let M = g.K.Kind.meaning in
     let q : s.count - 0 ≡ s.count = omega arith in
     record {
-      short = c.link-verdict.ensures.short;
-      verdict = subst (λ m. Judged M.quantities (map (link_of M) (take m s.links.now)) (link_of M c.args.new) c.args.steps.now c.link-verdict.new.steps c.link-verdict.result) q c.link-verdict.ensures.verdict;
-      totals = c.link-verdict.ensures.totals;
-      numbers = c.link-verdict.ensures.numbers;
+      short = c.link_verdict.ensures.short;
+      verdict = subst (λ m. Judged M.quantities (map (link_of M) (take m s.links.now)) (link_of M c.args.new) c.args.steps.now c.link_verdict.new.steps c.link_verdict.result) q c.link_verdict.ensures.verdict;
+      totals = c.link_verdict.ensures.totals;
+      numbers = c.link_verdict.ensures.numbers;
     }

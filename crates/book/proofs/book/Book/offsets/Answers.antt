@@ -12,20 +12,20 @@ use Rattle.book.specs.Memory.{state_of, rows_of}
 use Rattle.book.proofs.Promise.{answered, refuses}
 use Rattle.book.proofs.book.Book.offsets.Goals as goal
 
-pub returns-then-not-is-enough : goal.returns-then-not-is-enough
-returns-then-not-is-enough g c = record {
-  call = refuses _ _ _ _ (inl (refl, (λ e. both_ways _ c.if-not-is-enough.true (c.is-enough.ensures.no e)), refl));
+pub returns-then-not-is_enough : goal.returns-then-not-is_enough
+returns-then-not-is_enough g c = record {
+  call = refuses _ _ _ _ (inl (refl, (λ e. both_ways _ c.if-not-is_enough.true (c.is_enough.ensures.no e)), refl));
   reach = tt;
   rows = record { early = λ _. (refl, refl); totals = refl; numbers = refl };
 }
 
-pub grounded-offsets-requires : goal.grounded-offsets-requires
-grounded-offsets-requires g c =
+pub grounded_offsets-requires : goal.grounded_offsets-requires
+grounded_offsets-requires g c =
     let s = c.args.self.now.store in
     let q : s.count ≡ s.count - 0 = omega arith in
     let h = c.args.self.now.held in
     let len = length-take-le s.count s.links.now h.0 in
-    let e = c.is-enough.ensures.yes c.if-not-is-enough.false in
+    let e = c.is_enough.ensures.yes c.if-not-is_enough.false in
     record {
       sound = subst (λ m. Sound s.n (take m s.links.now)) q (λ k lt d. let x = c.args.self.now.sound k lt d in (x.0, x.1, x.2, x.3));
       small = h.3;
@@ -34,16 +34,16 @@ grounded-offsets-requires g c =
       numbers = e.1;
     }
 
-pub returns-then-not-grounded-offsets : goal.returns-then-not-grounded-offsets
-returns-then-not-grounded-offsets g c =
+pub returns-then-not-grounded_offsets : goal.returns-then-not-grounded_offsets
+returns-then-not-grounded_offsets g c =
     let M = g.K.Kind.meaning in
     let s = c.args.self.now.store in
     let q : s.count - 0 ≡ s.count = omega arith in
-    let e = c.grounded-offsets.ensures in
-    let torn : Fits M.quantities (state_of M s).links → ⊥ = subst (λ m. Fits M.quantities (map (link_of M) (take m s.links.now)) → ⊥) q (e.torn c.if-not-grounded-offsets.true) in
+    let e = c.grounded_offsets.ensures in
+    let torn : Fits M.quantities (state_of M s).links → ⊥ = subst (λ m. Fits M.quantities (map (link_of M) (take m s.links.now)) → ⊥) q (e.torn c.if-not-grounded_offsets.true) in
     let rows = rows_of c.args.totals.now c.args.numbers.now c.args.steps.now in
     record {
-      call = answered M s s (OFFSETS rows) _ (offsets_torn M (state_of M s) rows (c.is-enough.ensures.yes c.if-not-is-enough.false) torn) (unchanged _ _ _);
+      call = answered M s s (OFFSETS rows) _ (offsets_torn M (state_of M s) rows (c.is_enough.ensures.yes c.if-not-is_enough.false) torn) (unchanged _ _ _);
       reach = tt;
       rows = record { early = λ x. let z : ◌≡◌ {A = ℕ} 0 1 = ⊎_elim (λ d. cc) (λ d. cc) x in absurd (omega arith); totals = e.totals; numbers = e.numbers };
     }
@@ -53,12 +53,12 @@ returns g c =
     let M = g.K.Kind.meaning in
     let s = c.args.self.now.store in
     let q : s.count - 0 ≡ s.count = omega arith in
-    let e = c.grounded-offsets.ensures in
-    let row = take s.n c.grounded-offsets.new.totals in
-    let v = subst (λ m. Grounded M (take m s.links.now) s.n row) q (e.offsets c.if-not-grounded-offsets.false) in
+    let e = c.grounded_offsets.ensures in
+    let row = take s.n c.grounded_offsets.new.totals in
+    let v = subst (λ m. Grounded M (take m s.links.now) s.n row) q (e.offsets c.if-not-grounded_offsets.false) in
     let rows = rows_of c.args.totals.now c.args.numbers.now c.args.steps.now in
     record {
-      call = answered M s s (OFFSETS rows) (offsets (offset M row)) (offsets_carried M (state_of M s) rows (c.is-enough.ensures.yes c.if-not-is-enough.false) (offset M row) v.0 (λ u l. v.1 u (l.0, l.1) l.2)) (by_offsets rows (offset M row));
+      call = answered M s s (OFFSETS rows) (offsets (offset M row)) (offsets_carried M (state_of M s) rows (c.is_enough.ensures.yes c.if-not-is_enough.false) (offset M row) v.0 (λ u l. v.1 u (l.0, l.1) l.2)) (by_offsets rows (offset M row));
       reach = v.2;
       rows = record { early = λ x. absurd x; totals = e.totals; numbers = e.numbers };
     }

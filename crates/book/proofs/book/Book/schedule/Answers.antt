@@ -16,37 +16,37 @@ use Rattle.book.proofs.Told.{walk_told, walk_words}
 use Rattle.book.proofs.Walks.{standing_count}
 use Rattle.book.proofs.book.Book.schedule.Goals as goal
 
-pub returns-then-not-is-ordered : goal.returns-then-not-is-ordered
-returns-then-not-is-ordered g c =
+pub returns-then-not-is_ordered : goal.returns-then-not-is_ordered
+returns-then-not-is_ordered g c =
     let M = g.K.Kind.meaning in
     let s = c.args.self.now.store in
     let rows = rows_of c.args.totals.now c.args.numbers.now c.args.steps.now in
     record {
-      call = answered M s s (REALISE rows) _ (realise_unordered M (state_of M s) rows (sym c.is-ordered.ensures ∙ c.if-not-is-ordered.true)) (unchanged _ _ _);
+      call = answered M s s (REALISE rows) _ (realise_unordered M (state_of M s) rows (sym c.is_ordered.ensures ∙ c.if-not-is_ordered.true)) (unchanged _ _ _);
       rows = record { early = λ _. (refl, refl, refl); totals = refl; numbers = refl; steps = refl; count = omega arith; room = omega arith; words = refl };
       reach = tt;
     }
 
-pub returns-then-not-is-enough : goal.returns-then-not-is-enough
-returns-then-not-is-enough g c =
+pub returns-then-not-is_enough : goal.returns-then-not-is_enough
+returns-then-not-is_enough g c =
     let M = g.K.Kind.meaning in
     let s = c.args.self.now.store in
     let rows = rows_of c.args.totals.now c.args.numbers.now c.args.steps.now in
     record {
-      call = answered M s s (REALISE rows) _ (realise_short M (state_of M s) rows (sym c.is-ordered.ensures ∙ c.if-not-is-ordered.false) (λ e. both_ways _ c.if-not-is-enough.true (c.is-enough.ensures.no e))) (unchanged _ _ _);
+      call = answered M s s (REALISE rows) _ (realise_short M (state_of M s) rows (sym c.is_ordered.ensures ∙ c.if-not-is_ordered.false) (λ e. both_ways _ c.if-not-is_enough.true (c.is_enough.ensures.no e))) (unchanged _ _ _);
       rows = record { early = λ _. (refl, refl, refl); totals = refl; numbers = refl; steps = refl; count = omega arith; room = omega arith; words = refl };
       reach = tt;
     }
 
-pub least-offsets-requires : goal.least-offsets-requires
-least-offsets-requires g c =
+pub least_offsets-requires : goal.least_offsets-requires
+least_offsets-requires g c =
     let s = c.args.self.now.store in
     let q : s.count ≡ s.count - 0 = omega arith in
     let h = c.args.self.now.held in
     let len = length-take-le s.count s.links.now h.0 in
-    let e = c.is-enough.ensures.yes c.if-not-is-enough.false in
+    let e = c.is_enough.ensures.yes c.if-not-is_enough.false in
     record {
-      ordered = sym c.is-ordered.ensures ∙ c.if-not-is-ordered.false;
+      ordered = sym c.is_ordered.ensures ∙ c.if-not-is_ordered.false;
       sound = subst (λ m. Sound s.n (take m s.links.now)) q (λ k lt d. let x = c.args.self.now.sound k lt d in (x.0, x.1, x.2, x.3));
       low = h.2;
       small = h.3;
@@ -62,10 +62,10 @@ returns-in-None g c =
     let s = c.args.self.now.store in
     let q : s.count - 0 ≡ s.count = omega arith in
     let rows = rows_of c.args.totals.now c.args.numbers.now c.args.steps.now in
-    let ts' = c.least-offsets.new.totals in
+    let ts' = c.least_offsets.new.totals in
     let e = c.in-None.ensures in
-    let v = subst (λ m. Scheduled M s.n (map (link_of M) (take m s.links.now)) (offset M ts') c.args.steps.now c.least-offsets.new.steps None) q e.schedule in
-    let A : Asked M (state_of M s) rows = record { ordered = sym c.is-ordered.ensures ∙ c.if-not-is-ordered.false; enough = c.is-enough.ensures.yes c.if-not-is-enough.false } in
+    let v = subst (λ m. Scheduled M s.n (map (link_of M) (take m s.links.now)) (offset M ts') c.args.steps.now c.least_offsets.new.steps None) q e.schedule in
+    let A : Asked M (state_of M s) rows = record { ordered = sym c.is_ordered.ensures ∙ c.if-not-is_ordered.false; enough = c.is_enough.ensures.yes c.if-not-is_enough.false } in
     record {
       call = answered M s s (REALISE rows) (offsets (offset M ts')) (realise_least M (state_of M s) rows A (offset M ts') v.0 v.1) (by_realise rows (offset M ts'));
       rows = record { early = λ x. absurd x; totals = e.totals; numbers = e.numbers; steps = v.2; count = omega arith; room = omega arith; words = refl };
@@ -79,17 +79,17 @@ returns-in-Some g c =
     let q : s.count - 0 ≡ s.count = omega arith in
     let rows = rows_of c.args.totals.now c.args.numbers.now c.args.steps.now in
     let row = c.args.steps.now in
-    let row' = c.least-offsets.new.steps in
+    let row' = c.least_offsets.new.steps in
     let m = c.in-Some.shown in
     let e = c.in-Some.ensures in
-    let v = subst (λ k. Scheduled M s.n (map (link_of M) (take k s.links.now)) (offset M c.least-offsets.new.totals) row row' (Some m)) q e.schedule in
+    let v = subst (λ k. Scheduled M s.n (map (link_of M) (take k s.links.now)) (offset M c.least_offsets.new.totals) row row' (Some m)) q e.schedule in
     let ss = v.1.0 in
     let loop = v.1.1.0 in
     let few : length (state_of M s).links ≤ 8192 = omega (arith, standing_count M s c.args.self.now.held.0, c.args.self.now.held.1) in
     let told = walk_told M.quantities (state_of M s).links loop.0 loop.0 row row' m ss few loop.1 v.1.2 in
-    let A : Asked M (state_of M s) rows = record { ordered = sym c.is-ordered.ensures ∙ c.if-not-is-ordered.false; enough = c.is-enough.ensures.yes c.if-not-is-enough.false } in
+    let A : Asked M (state_of M s) rows = record { ordered = sym c.is_ordered.ensures ∙ c.if-not-is_ordered.false; enough = c.is_enough.ensures.yes c.if-not-is_enough.false } in
     let n : m ≤ s.n = e.short in
-    let kept : length row' ≡ length row = c.least-offsets.auto.steps in
+    let kept : length row' ≡ length row = c.least_offsets.auto.steps in
     record {
       call = answered M s s (REALISE rows) (refused NegativeLoop (steps_of (take m row')))
           (subst (λ ts. Right M (state_of M s) (REALISE rows) (refused NegativeLoop ts)) (sym told) (realise_loop M (state_of M s) rows A v.0 ss v.1.1))
