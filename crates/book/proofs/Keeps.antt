@@ -1,10 +1,9 @@
 -- One record taken out, or one put at the end: what stands then, and that the invariants stay.
-use Rattle.std.proofs.Common.{◌≡◌, ℕ, zero, suc, ◌+◌, ◌-◌, ◌<◌, ◌≤◌, min, Bool, ◌≢◌, List, [], ◌∷◌, ◌++◌, map, length, get_or, take, drop, set, sym, refl, ap, ◌∙◌, subst, ⊎_elim, zero-le, arith, length-set}
+use Rattle.std.proofs.Common.{◌≡◌, ℕ, suc, ◌+◌, ◌-◌, ◌<◌, ◌≤◌, min, Bool, List, [], ◌∷◌, ◌++◌, map, length, take, drop, set, sym, ap, ◌∙◌, subst, ⊎_elim, zero-le, arith, length-set}
 use mathlib.Core.List.{map-append}
-use lib.ListN.{length-map}
 use Rattle.std.specs.List.{remove}
 use Rattle.std.proofs.lemmas.List.{take-map, drop-map, take_at, drop_at, drop-drop, length-append, length-drop, length-take-le, take_more_set, length_push, get_or_push, get_or_append_left, map_push}
-use Rattle.std.proofs.lemmas.List.Edits.{length-remove, get_or-remove_below, get_or-remove_above}
+use Rattle.std.proofs.lemmas.List.Edits.{length-remove}
 use Rattle.std.proofs.lemmas.List.Elements.{AllWithin-push}
 use Rattle.std.proofs.lemmas.Bool.{cases_lt}
 use Rattle.calls.proofs.Removed.{from_removed}
@@ -14,7 +13,7 @@ use Rattle.search.specs.declared.link.Link.{Link}
 use Rattle.book.specs.declared.store.Store.{Store}
 use Rattle.search.specs.Records.{link_of}
 use Rattle.book.specs.Memory.{state_of, records, capacity_of, Good, Sound, Single, Held}
-use Rattle.calls.specs.State.{State, Call, STRIKE, Answer, done}
+use Rattle.calls.specs.State.{State, STRIKE, done}
 use Rattle.calls.specs.Standing.{Stands}
 use Rattle.calls.specs.Calls.{Next, by_strike, holding}
 use Rattle.book.specs.Search.{Nowhere, Joins}

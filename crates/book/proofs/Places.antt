@@ -1,8 +1,7 @@
 -- From a record in memory to the standing link that it means.
-use Rattle.std.proofs.Common.{◌≡◌, ℕ, zero, suc, ◌<◌, ◌≤◌, List, [], ◌∷◌, map, length, get_or, sym, refl, ap, ◌∙◌, subst, arith}
+use Rattle.std.proofs.Common.{◌≡◌, ℕ, zero, suc, ◌<◌, List, [], ◌∷◌, map, length, get_or, sym, refl, subst, arith}
 use lib.ListN.{length-map}
 use Rattle.kind.specs.Meaning.{Meaning}
-use Rattle.search.specs.declared.link.Link.{Link}
 use Rattle.book.specs.declared.store.Store.{Store}
 use Rattle.search.specs.Records.{link_of}
 use Rattle.book.specs.Memory.{state_of, records}

@@ -1,8 +1,8 @@
 -- A right answer with what it leaves is all that a call promises.
-use Rattle.std.proofs.Common.{◌≤◌, [], length}
+use Rattle.std.proofs.Common.{[], length}
 use native.Mathlib.Nat.{min-le_right}
 use Rattle.kind.specs.Meaning.{Meaning}
-use Rattle.calls.specs.State.{State, Call, Answer, refused, First}
+use Rattle.calls.specs.State.{Call, Answer, refused, First}
 use Rattle.calls.specs.Calls.{checks, Right, turned_down, Next, unchanged, then}
 use Rattle.calls.specs.declared.Refusal.{Refusal}
 use Rattle.calls.proofs.Runs.{untorn}

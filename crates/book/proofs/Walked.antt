@@ -1,7 +1,7 @@
 -- The right answers to a walk.
-use Rattle.std.proofs.Common.{◌≡◌, ℕ, zero, suc, ◌+◌, ◌<◌, ◌≤◌, ◌⊎◌, List, [], ◌∷◌, ◌++◌, length, get_or, take, drop, Ok, Err, sym, refl, ap, ◌∙◌, subst, inl, inr, ⊎_elim, arith}
+use Rattle.std.proofs.Common.{◌≡◌, ℕ, suc, ◌+◌, ◌<◌, ◌≤◌, List, [], ◌∷◌, ◌++◌, length, get_or, take, drop, Err, sym, refl, ap, ◌∙◌, subst, inl, inr, ⊎_elim, arith}
 use lib.ListN.{length-map}
-use Rattle.std.proofs.lemmas.List.{length-take-le, take-append-drop, drop_more, take_all}
+use Rattle.std.proofs.lemmas.List.{length-take-le, take-append-drop, drop_more}
 use Rattle.kind.specs.Group.{Quantities}
 use Rattle.kind.specs.Meaning.{Meaning}
 use Rattle.network.specs.Graph.{end}
@@ -9,11 +9,11 @@ use Rattle.network.specs.declared.Step.{Step}
 use Rattle.calls.specs.declared.Refusal.{Refusal}
 use Rattle.book.specs.declared.store.Store.{Store}
 use Rattle.book.specs.declared.trip.Trip.{Trip}
-use Rattle.calls.specs.State.{State, WALK, Answer, totals, refused}
+use Rattle.calls.specs.State.{State, WALK, totals, refused}
 use Rattle.calls.specs.Standing.{plan, ReadAs, Stops, Nowhere, Elsewhere, measured, wanted}
 use Rattle.calls.specs.Calls.{Right, yields, walked, by_walk}
 use Rattle.search.specs.Records.{link_of}
-use Rattle.book.specs.Memory.{state_of, records, Held, Answered, pair}
+use Rattle.book.specs.Memory.{state_of, records, Held, Answered}
 use Rattle.book.specs.Walking.{Walked, Stepped}
 use Rattle.book.proofs.Promise.{answered, refuses}
 use Rattle.calls.proofs.Reading.{nowhere_not, elsewhere_not, clash}

@@ -1,5 +1,5 @@
 -- A walk that grows by one word.
-use Rattle.std.proofs.Common.{◌≡◌, ℕ, zero, suc, ◌+◌, ◌-◌, ◌<◌, ◌≤◌, List, [], ◌∷◌, ◌++◌, map, length, get_or, take, sym, refl, ap, ◌∙◌, subst, arith}
+use Rattle.std.proofs.Common.{◌≡◌, ℕ, zero, suc, ◌+◌, ◌-◌, ◌≤◌, List, [], ◌∷◌, ◌++◌, length, get_or, sym, refl, ap, ◌∙◌, subst, arith}
 use lib.ListN.{length-map}
 use Rattle.std.proofs.lemmas.List.{length-take-le, length_push}
 use Rattle.kind.specs.Meaning.{Meaning}
@@ -9,14 +9,12 @@ use Rattle.network.specs.declared.Step.{Step}
 use Rattle.network.specs.declared.Step.TheVariants.{Forward, Backward}
 use Rattle.search.specs.declared.link.Link.{Link}
 use Rattle.book.specs.declared.store.Store.{Store}
-use Rattle.book.specs.declared.trip.Leg.{Leg}
 use Rattle.book.specs.declared.trip.Trip.{Trip}
-use Rattle.network.specs.Words.{word}
 use Rattle.calls.specs.State.{State}
-use Rattle.calls.specs.Standing.{link, Standing, plan, Reads, ReadAs, measured, wanted}
+use Rattle.calls.specs.Standing.{link, Standing, plan, Reads, ReadAs}
 use Rattle.search.specs.Records.{link_of}
-use Rattle.book.specs.Memory.{state_of, records, Held}
-use Rattle.book.specs.Walking.{signed, near, far, LegOf, Walked}
+use Rattle.book.specs.Memory.{state_of, records}
+use Rattle.book.specs.Walking.{signed, near, far, Walked}
 use Rattle.book.proofs.Places.{map_at}
 
 module _ {L T : Type 0} (M : Meaning L T) where

@@ -1,5 +1,5 @@
 -- The book in memory: what it holds, what its calls answer, and what its records keep.
-use Rattle.std.specs.Prelude.{◌≡◌, ℕ, ◌-◌, ◌*◌, ◌<◌, ◌≤◌, min, ◌⊎◌, List, [], ◌∷◌, map, length, get_or, take, drop, Ok, Err, Result, ◌≢◌, slice_index_or, slice_set}
+use Rattle.std.specs.Prelude.{◌≡◌, ℕ, ◌-◌, ◌*◌, ◌<◌, ◌≤◌, min, ◌⊎◌, List, [], map, length, get_or, take, drop, Ok, Err, Result, ◌≢◌, slice_index_or, slice_set}
 use Rattle.kind.specs.Meaning.{Meaning}
 use Rattle.network.specs.Offsets.{Fits}
 use Rattle.network.specs.Words.{word, steps_of}

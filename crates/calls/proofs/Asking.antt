@@ -1,22 +1,20 @@
 -- OFFSET, OFFSETS and REALISE: right answers, and what their verdicts say.
-use Rattle.std.proofs.Common.{◌≡◌, ℕ, ◌*◌, ◌<◌, ◌≤◌, Bool, true, false, ◌⊎◌, List, [], ◌∷◌, ◌++◌, map, length, sym, refl, ap, ◌∙◌, subst, inl, inr, arith}
-use native.Mathlib.Decide.{dec_le}
+use Rattle.std.proofs.Common.{◌≡◌, ℕ, ◌*◌, ◌≤◌, Bool, true, false, List, [], ◌∷◌, map, length, sym, refl, ap, ◌∙◌, subst, inl, inr, arith}
 use Rattle.std.proofs.lemmas.Bool.{both_ways}
 use Rattle.kind.specs.Group.{Quantities}
 use Rattle.kind.specs.Meaning.{Meaning}
 use Rattle.network.specs.declared.Step.{Step}
-use Rattle.network.specs.Offsets.{Link, Carries, Fits}
-use Rattle.network.specs.Theorems.{Theory}
+use Rattle.network.specs.Offsets.{Carries, Fits}
 use Rattle.network.proofs.Lists.{theory}
 use Rattle.calls.specs.declared.Refusal.{Refusal}
-use Rattle.calls.specs.declared.Refusal.TheVariants.{UnknownSwitch, ShortRow, Torn, NotConnected, Unordered, NegativeLoop}
-use Rattle.calls.specs.State.{State, Rows, Call, OFFSET, OFFSETS, REALISE, WALK, Answer, total, totals, offsets, refused, Inside, Enough, First, Passes}
+use Rattle.calls.specs.declared.Refusal.TheVariants.{ShortRow, Torn, NotConnected, Unordered, NegativeLoop}
+use Rattle.calls.specs.State.{State, Rows, OFFSET, OFFSETS, REALISE, Answer, total, offsets, refused, Inside, Enough, First}
 use Rattle.network.specs.Words.{word}
-use Rattle.calls.specs.Standing.{Linked, Lowest, Loop, Standing, ReadAs, measured, wanted}
-use Rattle.calls.specs.Calls.{checks, Right, yields, turned_down, Value, apart, carried, least, walked, Leaves, Realises, Ran}
-use Rattle.calls.specs.Verdicts.{Posed, Differ, Always, OffsetVerdict, Asked, Least, RealiseVerdict, LoopReadsBack, between}
+use Rattle.calls.specs.Standing.{Linked, Lowest, Loop, Standing, ReadAs, measured}
+use Rattle.calls.specs.Calls.{checks, Right, yields, turned_down, apart, carried, least, walked, Leaves, Realises}
+use Rattle.calls.specs.Verdicts.{Posed, Differ, Always, OffsetVerdict, Asked, Least, RealiseVerdict, LoopReadsBack}
 use Rattle.calls.proofs.Inversion.{was_refused}
-use Rattle.calls.proofs.Linking.{unless, at_most}
+use Rattle.calls.proofs.Linking.{at_most}
 use Rattle.calls.proofs.Reading.{nowhere_not, elsewhere_not, words_read}
 
 module _ {L T : Type 0} (M : Meaning L T) (s : State M.quantities.Q) where

@@ -1,22 +1,21 @@
 -- LINK: which check is the first to apply, what its verdict says, and that the words it shows are read back.
-use Rattle.std.proofs.Common.{◌≡◌, ℕ, ◌*◌, ◌<◌, ◌≤◌, Bool, true, false, ◌⊎◌, List, [], ◌∷◌, ◌++◌, map, length, sym, refl, ap, ◌∙◌, subst, inl, inr, arith}
+use Rattle.std.proofs.Common.{◌≡◌, ℕ, ◌*◌, ◌≤◌, Bool, true, false, List, [], ◌∷◌, ◌++◌, map, length, sym, refl, ap, subst, inl, inr, arith}
 use native.Mathlib.Decide.{dec_le}
 use Rattle.std.proofs.lemmas.Bool.{both_ways}
 use Rattle.kind.specs.Group.{Quantities}
 use Rattle.kind.specs.Meaning.{Meaning}
 use Rattle.network.specs.declared.Step.{Step}
-use Rattle.network.specs.Graph.{place, start, end, Walk, Joining}
-use Rattle.network.specs.Offsets.{Link, Fits, graph}
-use Rattle.network.specs.Theorems.{Theory}
+use Rattle.network.specs.Graph.{Joining}
+use Rattle.network.specs.Offsets.{Link, Fits}
 use Rattle.network.specs.Words.{word}
 use Rattle.network.proofs.Graph.{near_dec, back}
 use Rattle.network.proofs.Lists.{theory}
 use Rattle.calls.specs.declared.Refusal.{Refusal}
-use Rattle.calls.specs.declared.Refusal.TheVariants.{Issued, UnknownSwitch, SameSwitch, AlreadyStands, Full, ShortRow, Contradicts}
-use Rattle.calls.specs.State.{State, Rows, Call, LINK, WALK, Answer, done, totals, refused, Inside, Enough, First, Passes}
-use Rattle.calls.specs.Standing.{Stands, Linked, Standing, plan, ReadAs, Back, measured, wanted}
-use Rattle.calls.specs.Calls.{checks, Right, yields, turned_down, Value, entered, walked, Next, unchanged, by_link, Ran, then}
-use Rattle.calls.specs.Verdicts.{Ready, LinkVerdict, ReadBack, ReadsBack}
+use Rattle.calls.specs.declared.Refusal.TheVariants.{Contradicts}
+use Rattle.calls.specs.State.{State, Rows, Call, LINK, Answer, done, refused, Inside, Enough, First, Passes}
+use Rattle.calls.specs.Standing.{Stands, Linked, Standing, plan, ReadAs, Back}
+use Rattle.calls.specs.Calls.{checks, Right, yields, turned_down, entered, walked, Next, by_link, Ran}
+use Rattle.calls.specs.Verdicts.{Ready, LinkVerdict, ReadsBack}
 use Rattle.calls.proofs.Reading.{nowhere_not, elsewhere_not, words_read}
 use Rattle.calls.proofs.Inversion.{was_refused}
 use Rattle.calls.proofs.Runs.{untorn}

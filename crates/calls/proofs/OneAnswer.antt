@@ -1,10 +1,8 @@
 -- At most one answer is right.
-use Rattle.std.proofs.Common.{◌≡◌, ℕ, zero, suc, ◌+◌, ◌<◌, ◌≤◌, Bool, true, false, cond, leb, ◌⊎◌, List, [], ◌∷◌, ◌++◌, length, sym, refl, ap, ◌∙◌, subst, inl, inr, ⊎_elim, arith}
+use Rattle.std.proofs.Common.{◌≡◌, ℕ, ◌<◌, ◌≤◌, Bool, true, false, cond, leb, ◌⊎◌, List, [], ◌∷◌, length, sym, refl, ap, ◌∙◌, subst, inl, inr, ⊎_elim, arith}
 use Rattle.std.proofs.lemmas.Bool.{cases_eq, cases_lt, le-leb, lt-leb}
-use Rattle.kind.specs.Group.{Quantities}
 use Rattle.kind.specs.Meaning.{Meaning}
-use Rattle.network.specs.Graph.{start, end}
-use Rattle.network.specs.Offsets.{Link, Carries, Fits}
+use Rattle.network.specs.Offsets.{Link, Carries}
 use Rattle.network.specs.Theorems.{Theory}
 use Rattle.network.specs.Theorems as theorems
 use Rattle.network.specs.declared.Step.{Step}
@@ -12,10 +10,10 @@ use Rattle.network.specs.declared.Step.TheVariants.{Forward, Backward}
 use Rattle.network.proofs.Lists.{theory}
 use Rattle.network.proofs.Sums.{sums}
 use Rattle.calls.specs.declared.Refusal.{Refusal}
-use Rattle.calls.specs.declared.Refusal.TheVariants.{NegativeLoop, Contradicts}
-use Rattle.calls.specs.State.{State, Rows, Call, SIZE, LINK, STRIKE, OFFSET, OFFSETS, REALISE, WALK, ISSUE, RECALL, Answer, done, total, totals, offsets, refused, Check, First, Passes}
-use Rattle.calls.specs.Standing.{link, Standing, plan, Linked, Lowest, ReadAs, measured, wanted, Back}
-use Rattle.calls.specs.Calls.{checks, Right, yields, turned_down, Value, sized, entered, struck, issued, recalled, apart, carried, least, walked, Realises}
+use Rattle.calls.specs.declared.Refusal.TheVariants.{Contradicts}
+use Rattle.calls.specs.State.{State, Call, SIZE, LINK, STRIKE, OFFSET, OFFSETS, REALISE, WALK, ISSUE, RECALL, Answer, done, total, totals, refused, Check, First, Passes}
+use Rattle.calls.specs.Standing.{link, Standing, Linked, Lowest, ReadAs, measured, wanted, Back}
+use Rattle.calls.specs.Calls.{checks, Right, yields, turned_down, Value, sized, entered, struck, issued, recalled, apart, carried, least, walked}
 use Rattle.calls.specs.OneAnswer.{Same, same, same_inside, same_loop}
 use Rattle.calls.proofs.Reading.{same_end}
 

@@ -1,5 +1,5 @@
 -- Words are read as steps in one way at most, so a walk stops at one place and for one reason.
-use Rattle.std.proofs.Common.{◌≡◌, ℕ, zero, suc, ◌+◌, ◌<◌, ◌≤◌, ◌⊎◌, List, [], ◌∷◌, ◌++◌, map, length, sym, refl, ap, ◌∙◌, subst, inl, inr, ⊎_elim, arith}
+use Rattle.std.proofs.Common.{◌≡◌, ℕ, ◌≤◌, ◌⊎◌, List, [], ◌∷◌, ◌++◌, map, length, sym, refl, ap, ◌∙◌, subst, inl, inr, ⊎_elim, arith}
 use Rattle.kind.specs.Group.{Quantities}
 use Rattle.network.specs.Graph.{place, start, end, Walk}
 use Rattle.network.specs.declared.Step.{Step}

@@ -31,12 +31,12 @@ mod tests {
     #[test]
     fn tick_text(rt: HostRuntime) {
         let total = Ticks::sum(&Ticks::zero(), &Ticks::negated(&305));
-        assert_eq!(rt; Ticks::text(&total).as_bytes(), b"-305");
+        assert_eq!(rt; Ticks::text(&total).as_bytes(), b"-305".as_slice());
     }
 
     #[test]
     fn place_text(rt: HostRuntime) {
         let total = Places::sum(&990, &Places::negated(&85));
-        assert_eq!(rt; Places::text(&total).as_bytes(), b"905");
+        assert_eq!(rt; Places::text(&total).as_bytes(), b"905".as_slice());
     }
 }

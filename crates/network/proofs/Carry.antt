@@ -1,12 +1,12 @@
-use Rattle.std.proofs.Common.{◌≡◌, ℕ, zero, suc, ◌-◌, ◌<◌, ◌≤◌, ◌⊎◌, List, [], ◌∷◌, ◌++◌, sym, refl, ap, ◌∙◌, subst, inl, inr, ⊎_elim, arith}
+use Rattle.std.proofs.Common.{◌≡◌, ℕ, zero, suc, ◌<◌, ◌≤◌, ◌⊎◌, List, [], ◌∷◌, sym, refl, ap, ◌∙◌, subst, inl, inr, arith}
 use native.Mathlib.Decide.{ℕ_discrete, dec_le}
-use Rattle.kind.specs.Group.{Quantities, Laws}
-use Rattle.network.specs.Graph.{Graph, place, start, end, Walk, Connected, Upto, Before, Joining}
+use Rattle.kind.specs.Group.{Quantities}
+use Rattle.network.specs.Graph.{Graph, Walk, Connected, Upto, Joining}
 use Rattle.network.specs.declared.Step.{Step}
 use Rattle.network.specs.declared.Step.TheVariants.{Forward, Backward}
 use Rattle.network.specs.Offsets.{tally}
 use Rattle.network.proofs.Sums.{sums, cancel}
-use Rattle.network.proofs.Graph.{same, ahead, trans, back, walk_more, near_dec}
+use Rattle.network.proofs.Graph.{same, ahead, trans, back, near_dec}
 use Rattle.network.proofs.Forest.{joined}
 
 -- c differs by d over each link of A

@@ -1,12 +1,11 @@
-use Rattle.std.proofs.Common.{◌≡◌, ℕ, zero, suc, ◌-◌, ◌<◌, ◌≤◌, ◌⊎◌, List, [], ◌∷◌, ◌++◌, length, Some, None, Option, sym, refl, ap, ◌∙◌, subst, inl, inr, ⊎_elim, arith}
-use native.Mathlib.Decide.{ℕ_discrete, dec_le}
+use Rattle.std.proofs.Common.{◌≡◌, ℕ, ◌<◌, List, [], ◌∷◌, length, Some, None, Option, sym, refl, ap, ◌∙◌, subst, inl, inr, arith}
 use Rattle.std.specs.List.{AllByRecursion as All}
-use Rattle.network.specs.Graph.{Graph, place, start, end, Walk, Connected, Upto, Before, Joining, switches, Distinct, Path}
+use Rattle.network.specs.Graph.{Graph, end, Walk, Connected, Upto, Joining, switches, Distinct, Path}
 use Rattle.network.specs.declared.Step.{Step}
 use Rattle.network.specs.declared.Step.TheVariants.{Forward, Backward}
 use Rattle.network.specs.Climb.{Climb, Held, Forest}
-use Rattle.network.proofs.Graph.{same, ahead, trans, back, walk_more, near_dec}
-use Rattle.network.proofs.Forest.{joined, joining_connect, joining_no_more}
+use Rattle.network.proofs.Graph.{trans, back}
+use Rattle.network.proofs.Forest.{joining_connect, joining_no_more}
 
 pub clash : (o : Option Step) (s : Step) → o ≡ Some s → o ≡ None → ⊥
 clash o s a b = let z : ◌≡◌ {A = ℕ} 0 1 = cc in omega arith

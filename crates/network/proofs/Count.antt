@@ -1,10 +1,9 @@
 -- A climb is no longer than there are switches, so its length can be computed.
-use Rattle.std.proofs.Common.{◌≡◌, ℕ, zero, suc, ◌+◌, ◌<◌, ◌≤◌, ◌⊎◌, List, [], ◌∷◌, ◌++◌, length, Some, None, Option, sym, refl, ap, ◌∙◌, subst, inl, inr, ⊎_elim, arith}
+use Rattle.std.proofs.Common.{◌≡◌, ℕ, zero, suc, ◌<◌, ◌≤◌, List, [], ◌∷◌, length, Option, refl, ap, ◌∙◌, subst, arith}
 use native.Mathlib.Decide.{ℕ_discrete}
 use Rattle.std.specs.List.{AllByRecursion as All}
 use Rattle.network.specs.declared.Step.{Step}
-use Rattle.network.specs.declared.Step.TheVariants.{Forward, Backward}
-use Rattle.network.specs.Graph.{Graph, place, start, end, Joining, switches, Distinct}
+use Rattle.network.specs.Graph.{Graph, end, switches, Distinct}
 use Rattle.network.specs.Climb.{Climb, ups, onward}
 
 -- xs without its n, which it has at most once

@@ -1,7 +1,7 @@
 -- A list of links fits exactly when its network as measured and its network as wanted are equivalent.
-use Rattle.std.proofs.Common.{◌≡◌, ℕ, zero, suc, ◌≤◌, ◌↔◌, List, [], ◌∷◌, length, refl, arith}
+use Rattle.std.proofs.Common.{ℕ, zero, suc, ◌↔◌, List, [], ◌∷◌, refl, arith}
 use Rattle.kind.specs.Group.{Quantities}
-use Rattle.network.specs.Offsets.{Link, at, Positions, Carried, Carries, Fits}
+use Rattle.network.specs.Offsets.{Link, Carries, Fits}
 use Rattle.network.specs.Network.{Relabels, Equivalent, measured_network, wanted_network}
 
 module _ (K : Quantities) where

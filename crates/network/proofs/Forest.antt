@@ -1,10 +1,10 @@
-use Rattle.std.proofs.Common.{◌≡◌, ℕ, zero, suc, ◌-◌, ◌<◌, ◌≤◌, ◌⊎◌, List, [], ◌∷◌, ◌++◌, sym, refl, ap, ◌∙◌, subst, ap₂, inl, inr, ⊎_elim, arith}
-use native.Mathlib.Decide.{ℕ_discrete, dec_le}
+use Rattle.std.proofs.Common.{◌≡◌, ℕ, zero, suc, ◌-◌, ◌<◌, ◌⊎◌, List, [], ◌∷◌, ◌++◌, sym, refl, ap, ◌∙◌, subst, inl, inr, arith}
+use native.Mathlib.Decide.{ℕ_discrete}
 use Rattle.std.specs.List.{AllByRecursion as All}
 use Rattle.network.specs.Graph.{Graph, place, start, end, Walk, Connected, Upto, Before, Joining, switches, Distinct, Path}
 use Rattle.network.specs.declared.Step.{Step}
 use Rattle.network.specs.declared.Step.TheVariants.{Forward, Backward}
-use Rattle.network.proofs.Graph.{same, ahead, trans, back, walk_back, bridged, walk_more, near_dec}
+use Rattle.network.proofs.Graph.{ahead, trans, back, walk_back, bridged, walk_more, near_dec}
 
 module _ (g : Graph) where
   before_dec : (p i j : ℕ) → Dec (Connected g (Before p) i j)

@@ -1,6 +1,6 @@
-use Rattle.std.proofs.Common.{◌≡◌, ℕ, zero, suc, ◌<◌, ◌≤◌, ◌⊎◌, List, [], ◌∷◌, ◌++◌, sym, refl, ap, ◌∙◌, subst, inl, inr, ⊎_elim, arith}
+use Rattle.std.proofs.Common.{◌≡◌, ℕ, zero, suc, ◌≤◌, ◌⊎◌, List, [], ◌∷◌, ◌++◌, sym, refl, ap, subst, inl, inr, ⊎_elim, arith}
 use native.Mathlib.Decide.{ℕ_discrete, dec_le}
-use Rattle.network.specs.Graph.{Graph, place, start, end, Walk, Connected, Upto, Before, Joining}
+use Rattle.network.specs.Graph.{Graph, place, start, end, Walk, Connected, Upto}
 use Rattle.network.specs.declared.Step.{Step}
 use Rattle.network.specs.declared.Step.TheVariants.{Forward, Backward}
 

@@ -1,5 +1,5 @@
 -- Offsets with the lowest switch of each group at zero: from any that carry the links, take away at each switch what its lowest has.
-use Rattle.std.proofs.Common.{◌≡◌, ℕ, ◌≤◌, List, [], ◌∷◌, sym, refl, ap, ◌∙◌, subst, arith}
+use Rattle.std.proofs.Common.{◌≡◌, ℕ, ◌≤◌, sym, refl, ap, ◌∙◌, arith}
 use Rattle.network.specs.declared.Step.TheVariants.{Forward}
 use Rattle.kind.specs.Group.{Quantities}
 use Rattle.network.specs.Graph.{Graph, Connected, Upto}

@@ -1,7 +1,7 @@
 -- One more link: a forest of k links becomes one of k + 1.
-use Rattle.std.proofs.Common.{◌≡◌, ℕ, zero, suc, ◌<◌, ◌≤◌, ◌⊎◌, List, [], ◌∷◌, ◌++◌, Some, None, Option, sym, refl, ap, ◌∙◌, subst, inl, inr, append-nil, arith}
+use Rattle.std.proofs.Common.{◌≡◌, ℕ, suc, List, [], ◌∷◌, ◌++◌, Some, None, Option, sym, refl, ap, ◌∙◌, subst, inl, inr, append-nil, arith}
 use native.Mathlib.Decide.{ℕ_discrete}
-use Rattle.network.specs.Graph.{Graph, place, start, end, Connected, Upto, Before, Joining, Path}
+use Rattle.network.specs.Graph.{Graph, place, start, Connected, Upto, Before, Joining, Path}
 use Rattle.network.specs.declared.Step.{Step}
 use Rattle.network.specs.declared.Step.TheVariants.{Forward, Backward}
 use Rattle.network.specs.Climb.{Climb, Held, Forest}

@@ -1,15 +1,15 @@
-use Rattle.std.proofs.Common.{◌≡◌, ℕ, zero, suc, ◌+◌, ◌-◌, ◌<◌, ◌≤◌, ◌↔◌, List, [], ◌∷◌, ◌++◌, length, get_or, sym, refl, ap, ◌∙◌, subst, add-one, arith, length-append}
+use Rattle.std.proofs.Common.{◌≡◌, ℕ, zero, suc, ◌+◌, ◌<◌, ◌≤◌, ◌↔◌, List, [], ◌∷◌, ◌++◌, length, get_or, sym, refl, ap, ◌∙◌, subst, add-one, arith, length-append}
 use native.Mathlib.Decide.{dec_le}
 use lib.ListN.{get_or-append}
 use lib.Seq.{get_or-append_seam}
 use Rattle.std.specs.List.{remove as removed}
 use Rattle.std.proofs.lemmas.List.Edits.{length-remove, get_or-remove_below, get_or-remove_above}
 use Rattle.kind.specs.Group.{Quantities}
-use Rattle.network.specs.Graph.{Graph, place, start, end, Walk, Connected, Upto, Joining, Path}
+use Rattle.network.specs.Graph.{Graph, Walk, Upto, Joining}
 use Rattle.network.specs.declared.Step.{Step}
 use Rattle.network.specs.declared.Step.TheVariants.{Forward, Backward}
 use Rattle.network.specs.Offsets.{Link, tally, nowhere, at, graph, Positions, Carried, Carries, Fits, difference}
-use Rattle.network.specs.Theorems.{Linked, Joins, Lowest, Theory}
+use Rattle.network.specs.Theorems.{Linked, Theory}
 use Rattle.network.proofs.Sums.{sums}
 use Rattle.network.proofs.Carry
 use Rattle.network.proofs.Carry.{Moves}

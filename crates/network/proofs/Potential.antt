@@ -1,10 +1,10 @@
 -- Offsets read off the forest: what lies between a switch and its root. They carry every link if any offsets do.
-use Rattle.std.proofs.Common.{◌≡◌, ℕ, ◌≤◌, ◌⊎◌, List, [], ◌∷◌, Some, None, Option, sym, refl, ap, ◌∙◌, subst, inl, inr}
+use Rattle.std.proofs.Common.{◌≡◌, ℕ, ◌∷◌, Some, Option, sym, ap, ◌∙◌, inl, inr}
 use Rattle.network.specs.declared.Step.{Step}
 use Rattle.network.specs.declared.Step.TheVariants.{Forward, Backward}
 use Rattle.kind.specs.Group.{Quantities}
 use Rattle.network.specs.Graph.{Graph, end, Upto, Joining}
-use Rattle.network.specs.Climb.{Climb, Held, Forest}
+use Rattle.network.specs.Climb.{Held, Forest}
 use Rattle.network.specs.Offsets.{tally}
 use Rattle.network.proofs.Sums.{sums}
 use Rattle.network.proofs.Climb.{one_climb}

@@ -1,8 +1,8 @@
 -- The way up from i turned round, a pointer at a time, so that i is the root of its tree.
-use Rattle.std.proofs.Common.{◌≡◌, ℕ, zero, suc, ◌-◌, ◌<◌, ◌≤◌, ◌⊎◌, List, [], ◌∷◌, ◌++◌, length, Some, None, Option, sym, refl, ap, ◌∙◌, subst, inl, inr, ⊎_elim, arith}
-use native.Mathlib.Decide.{ℕ_discrete, dec_le}
+use Rattle.std.proofs.Common.{◌≡◌, ℕ, List, [], ◌∷◌, Some, None, Option, sym, refl, ap, ◌∙◌, subst, inl, inr, arith}
+use native.Mathlib.Decide.{ℕ_discrete}
 use Rattle.std.specs.List.{AllByRecursion as All}
-use Rattle.network.specs.Graph.{reverse, Graph, place, start, end, Walk, Connected, Upto, Before, Joining, switches, Distinct, Path}
+use Rattle.network.specs.Graph.{reverse, Graph, place, start, end, Joining, switches}
 use Rattle.network.specs.declared.Step.{Step}
 use Rattle.network.specs.declared.Step.TheVariants.{Forward, Backward}
 use Rattle.network.specs.Climb.{Climb, Held, Forest}

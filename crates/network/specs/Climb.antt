@@ -1,6 +1,6 @@
 -- The forest of the joining links as code holds it: for each switch the step to its parent, or none at a root.
 use Rattle.std.specs.Prelude.{◌≡◌, ℕ, zero, suc, ◌⊎◌, List, [], ◌∷◌, Some, None, Option}
-use Rattle.network.specs.Graph.{Graph, place, start, end, Connected, Upto, Joining}
+use Rattle.network.specs.Graph.{Graph, place, start, end, Joining}
 use Rattle.network.specs.declared.Step.{Step}
 use Rattle.network.specs.declared.Step.TheVariants.{Forward, Backward}
 

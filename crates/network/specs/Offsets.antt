@@ -1,7 +1,7 @@
 -- Offsets of the switches, links that they carry, and lists of links that fit.
-use Rattle.std.specs.Prelude.{◌≡◌, ℕ, zero, suc, ◌<◌, ◌≤◌, List, [], ◌∷◌, length, slice_index_or}
+use Rattle.std.specs.Prelude.{◌≡◌, ℕ, zero, suc, List, [], ◌∷◌, length, slice_index_or}
 use Rattle.kind.specs.Group.{Quantities}
-use Rattle.network.specs.Graph.{Graph, Walk, Connected, Upto}
+use Rattle.network.specs.Graph.{Graph, Upto}
 use Rattle.network.specs.declared.Step.{Step}
 use Rattle.network.specs.declared.Step.TheVariants.{Forward, Backward}
 

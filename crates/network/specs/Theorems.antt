@@ -1,8 +1,8 @@
 -- What holds of offsets and links, in the subject's words.
-use Rattle.std.specs.Prelude.{◌≡◌, ℕ, suc, ◌<◌, ◌≤◌, ◌↔◌, List, [], ◌∷◌, ◌++◌, length, ◌≢◌}
+use Rattle.std.specs.Prelude.{◌≡◌, ℕ, ◌<◌, ◌≤◌, ◌↔◌, List, [], ◌∷◌, ◌++◌, length, ◌≢◌}
 use Rattle.std.specs.List.{remove as removed}
 use Rattle.kind.specs.Group.{Quantities}
-use Rattle.network.specs.Graph.{Graph, Walk, Connected, Joining, Path}
+use Rattle.network.specs.Graph.{Walk, Connected, Joining, Path}
 use Rattle.network.specs.declared.Step.{Step}
 use Rattle.network.specs.Network.{Equivalent, measured_network, wanted_network}
 use Rattle.network.specs.Offsets.{Link, tally, at, graph, Positions, Carried, Carries, Fits, difference}

@@ -1,16 +1,16 @@
 -- Climbing and turning in a forest whose links lie among n switches.
-use Rattle.std.proofs.Common.{◌≡◌, ℕ, zero, suc, ◌+◌, ◌-◌, ◌<◌, ◌≤◌, List, [], ◌∷◌, length, get_or, set, Some, None, Option, sym, refl, ap, ◌∙◌, subst, arith, length-set, get_or-set_other, get_or-set_same}
+use Rattle.std.proofs.Common.{◌≡◌, ℕ, zero, suc, ◌-◌, ◌<◌, ◌≤◌, List, [], ◌∷◌, length, get_or, set, Some, None, Option, sym, refl, ap, ◌∙◌, subst, arith, get_or-set_other, get_or-set_same}
 use Rattle.std.specs.List.{AllByRecursion as All}
 use Rattle.network.specs.declared.Step.{Step}
 use Rattle.network.specs.declared.Step.TheVariants.{Forward, Backward}
-use Rattle.network.specs.Graph.{Graph, place, start, end, reverse, Connected, Upto, Joining, switches, Distinct}
+use Rattle.network.specs.Graph.{Graph, place, start, end, reverse, Connected, Upto, Joining, switches}
 use Rattle.network.specs.Climb.{Climb, Forest}
 use Rattle.network.specs.Climb.{ups}
 use Rattle.network.proofs.Graph.{ahead, trans}
 use Rattle.network.proofs.Climb.{climb_distinct}
 use Rattle.network.proofs.Turning.{Put, Rerooting, turned, ended}
 use Rattle.network.proofs.Count.{pigeons, climb_ups}
-use Rattle.network.specs.Words.{word, decode}
+use Rattle.network.specs.Words.{decode}
 use Rattle.search.specs.Parents.{parents}
 use Rattle.search.specs.Records.{On}
 use Rattle.search.proofs.Wiring.{Wired, end_on}

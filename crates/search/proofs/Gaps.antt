@@ -1,14 +1,12 @@
 -- What a step adds to an offset.
-use Rattle.std.proofs.Common.{◌≡◌, ℕ, zero, suc, ◌+◌, ◌-◌, ◌*◌, ◌<◌, ◌≤◌, List, [], ◌∷◌, map, length, get_or, sym, refl, ap, ◌∙◌, subst, arith}
+use Rattle.std.proofs.Common.{◌≡◌, ℕ, ◌-◌, ◌≤◌, List, ◌∷◌, length, get_or, sym, refl, ap, ◌∙◌}
 use Rattle.kind.specs.Group.{Quantities}
 use Rattle.kind.specs.Meaning.{Meaning}
 use Rattle.network.specs.declared.Step.{Step}
 use Rattle.network.specs.declared.Step.TheVariants.{Forward, Backward}
-use Rattle.network.specs.Graph.{place}
 use Rattle.network.specs.Offsets.{tally, difference}
 use Rattle.network.proofs.Sums.{sums}
 use Rattle.search.specs.declared.link.Link.{Link as Record}
-use Rattle.search.specs.Records.{link_of}
 use Rattle.search.specs.Settled.{worth, gap}
 use Rattle.search.proofs.Wiring.{link_at}
 

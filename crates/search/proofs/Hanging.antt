@@ -1,5 +1,5 @@
 -- A joining link hung in the forest: the tree of its step's start, a root, under the step's end.
-use Rattle.std.proofs.Common.{◌≡◌, ℕ, zero, suc, ◌<◌, ◌≤◌, ◌⊎◌, List, [], ◌∷◌, Some, None, Option, sym, refl, ap, ◌∙◌, subst, inl, inr, arith}
+use Rattle.std.proofs.Common.{◌≡◌, ℕ, suc, List, [], ◌∷◌, Some, None, Option, sym, refl, ap, ◌∙◌, subst, inl, inr, arith}
 use native.Mathlib.Decide.{ℕ_discrete}
 use Rattle.network.specs.Graph.{Graph, place, start, end, Connected, Upto, Before, Joining}
 use Rattle.network.specs.declared.Step.{Step}
@@ -8,7 +8,6 @@ use Rattle.network.specs.Climb.{Climb, Held, Forest}
 use Rattle.network.proofs.Graph.{back, walk_more}
 use Rattle.network.proofs.Climb.{clash, one_step, other_misses, connected_of_root}
 use Rattle.network.proofs.Turning.{Put, kept, all_climb}
-use Rattle.network.proofs.Growth.{before_near}
 
 joins : (g : Graph) (k : ℕ) (s : Step) → place s ≡ suc k → (Connected g (Upto k) (start g s) (end g s) → ⊥) → Connected g (Before (suc k)) (g.from (place s)) (g.to (place s)) → ⊥
 joins g k (Forward p) e apart (ss, w) = apart (ss, walk_more g (Before (suc k)) (Upto k) (λ q h. omega arith) (g.from p) ss (g.to p) w)

@@ -1,7 +1,6 @@
 -- One more link among the groups and in the forest.
-use Rattle.std.proofs.Common.{◌≡◌, ℕ, zero, suc, ◌+◌, ◌-◌, ◌<◌, ◌≤◌, List, [], ◌∷◌, length, get_or, Some, None, sym, refl, ap, ◌∙◌, subst, add-one, arith}
-use Rattle.network.specs.Graph.{Graph, start, end, Connected, Upto}
-use Rattle.network.specs.declared.Step.{Step}
+use Rattle.std.proofs.Common.{◌≡◌, ℕ, zero, suc, ◌+◌, ◌-◌, ◌<◌, List, [], ◌∷◌, length, get_or, None, sym, refl, ap, ◌∙◌, subst, add-one, arith}
+use Rattle.network.specs.Graph.{Graph, Connected, Upto}
 use Rattle.network.specs.declared.Step.TheVariants.{Forward, Backward}
 use Rattle.network.specs.Climb.{Forest}
 use Rattle.network.proofs.Growth.{skip, no_links}
@@ -10,7 +9,7 @@ use Rattle.search.specs.Parents.{parents}
 use Rattle.search.specs.Records.{graph_of, On, Sound}
 use Rattle.search.specs.declared.link.Link.{Link as Record}
 use Rattle.search.specs.Joined.{label, Labelled, Joined}
-use Rattle.search.specs.Grouped.{Rising, Leader, Found, under, Grouped}
+use Rattle.search.specs.Grouped.{Leader, under, Grouped}
 use Rattle.search.proofs.Wiring.{wired}
 use Rattle.search.proofs.Labels.{apart, stay, merge}
 use Rattle.search.proofs.Groups.{led, not_led}

@@ -1,5 +1,5 @@
 -- Labels that tell what is connected, as links are added.
-use Rattle.std.proofs.Common.{◌≡◌, ℕ, zero, suc, ◌<◌, ◌≤◌, ◌⊎◌, List, [], ◌∷◌, sym, refl, ap, ◌∙◌, subst, inl, inr, arith}
+use Rattle.std.proofs.Common.{◌≡◌, ℕ, suc, ◌⊎◌, sym, ◌∙◌, subst, inl, inr}
 use native.Mathlib.Decide.{ℕ_discrete}
 use Rattle.network.specs.Graph.{Graph, place, start, end, Connected, Upto}
 use Rattle.network.specs.declared.Step.{Step}

@@ -1,18 +1,17 @@
 -- From labels, forest and offsets to what holds of the links.
-use Rattle.std.proofs.Common.{◌≡◌, ℕ, zero, suc, ◌+◌, ◌-◌, ◌*◌, ◌<◌, ◌≤◌, ◌⊎◌, List, [], ◌∷◌, ◌++◌, map, length, get_or, Some, None, sym, refl, ap, ◌∙◌, subst, inl, inr, append-nil, arith}
+use Rattle.std.proofs.Common.{◌≡◌, ℕ, suc, ◌-◌, ◌*◌, ◌<◌, ◌≤◌, List, [], ◌∷◌, ◌++◌, map, length, get_or, None, sym, refl, ap, ◌∙◌, subst, append-nil, arith}
 use native.Mathlib.Decide.{dec_le}
 use Rattle.std.proofs.lemmas.List.{get_or-map, length-map}
 use Rattle.kind.specs.Group.{Quantities}
 use Rattle.kind.specs.Meaning.{Meaning}
 use Rattle.network.specs.declared.Step.{Step}
-use Rattle.network.specs.Graph.{Graph, Walk, Connected, Upto, Joining, Path}
+use Rattle.network.specs.Graph.{Connected, Upto, Joining, Path}
 use Rattle.network.specs.Climb.{Climb, Forest}
-use Rattle.network.specs.Offsets.{Link, tally, at, graph, Positions, Carried, Carries, Fits, difference}
+use Rattle.network.specs.Offsets.{Link, tally, at, graph, Positions, Carried, Carries, Fits}
 use Rattle.network.specs.Theorems.{Linked, Joins}
 use Rattle.network.proofs.Sums.{sums}
 use Rattle.network.proofs.Climb.{one_climb}
 use Rattle.network.proofs.Growth.{found}
-use Rattle.network.proofs.Graph.{back}
 use Rattle.network.proofs.Potential.{potential, potential_moves}
 use Rattle.network.proofs.Lists.{theory, at_old, at_new, longer, moves_carried}
 use Rattle.search.specs.declared.link.Link.{Link as Record}
@@ -20,8 +19,8 @@ use Rattle.search.specs.Parents.{parents}
 use Rattle.search.specs.Records.{link_of, graph_of, On}
 use Rattle.search.specs.Joined.{label, Joined}
 use Rattle.search.specs.Settled.{gap, Placed, offset, Reached}
-use Rattle.search.specs.Written.{Written, Climbed}
-use Rattle.search.specs.Verdict.{WayBack, Shown}
+use Rattle.search.specs.Written.{Climbed}
+use Rattle.search.specs.Verdict.{Shown}
 use Rattle.search.proofs.Wiring.{Wired, some, one_graph, from_at, to_at}
 use Rattle.search.proofs.Climbs.{climb_short}
 use Rattle.search.proofs.Ways.{nothing}

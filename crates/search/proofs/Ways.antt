@@ -1,15 +1,15 @@
 -- The way up from a switch, a step at a time.
-use Rattle.std.proofs.Common.{◌≡◌, ℕ, zero, suc, ◌+◌, ◌-◌, ◌<◌, ◌≤◌, List, [], ◌∷◌, ◌++◌, map, length, get_or, take, drop, set, Some, None, Option, sym, refl, ap, ◌∙◌, subst, append-nil, add-one, arith, length-append, length-set, drop-drop, take-suc-set, drop-set-lt}
+use Rattle.std.proofs.Common.{◌≡◌, ℕ, suc, ◌+◌, ◌-◌, ◌<◌, ◌≤◌, List, [], ◌∷◌, ◌++◌, map, length, get_or, take, drop, set, Some, None, Option, sym, refl, ap, ◌∙◌, subst, append-nil, add-one, arith, length-append, drop-drop, take-suc-set, drop-set-lt}
 use lib.Seq.{append_snoc}
 use Rattle.std.proofs.lemmas.List.{map-append}
 use Rattle.network.specs.declared.Step.{Step}
-use Rattle.network.specs.Graph.{Graph, place, start, end, Joining}
+use Rattle.network.specs.Graph.{Graph, place, end, Joining}
 use Rattle.network.specs.Climb.{Climb, Forest}
 use Rattle.network.specs.Climb.{ups}
 use Rattle.network.specs.Words.{word, decode}
 use Rattle.search.specs.Parents.{parents}
 use Rattle.search.specs.Records.{On}
-use Rattle.search.specs.Written.{Written, Climbed}
+use Rattle.search.specs.Written.{Written}
 use Rattle.search.proofs.Wiring.{Wired}
 use Rattle.search.proofs.Climbs.{ups_at, climb_short, up_on, up_less}
 

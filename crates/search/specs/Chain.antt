@@ -1,5 +1,5 @@
 -- Switches on the way up, as a stack holds them: v first, each above the one before it.
-use Rattle.std.specs.Prelude.{◌≡◌, ℕ, ◌+◌, ◌-◌, ◌<◌, ◌≤◌, List, length, Some, slice_index}
+use Rattle.std.specs.Prelude.{◌≡◌, ℕ, ◌+◌, ◌<◌, ◌≤◌, List, Some, slice_index}
 use Rattle.network.specs.declared.Step.{Step}
 use Rattle.network.specs.Graph.{Graph, end}
 use Rattle.search.specs.Parents.{parents}

@@ -1,5 +1,5 @@
 -- Link records as links of a network.
-use Rattle.std.specs.Prelude.{ℕ, ◌<◌, ◌≤◌, List, [], ◌∷◌, map, length, slice_index, slice_index_or}
+use Rattle.std.specs.Prelude.{ℕ, ◌<◌, ◌≤◌, List, ◌∷◌, map, length, slice_index, slice_index_or}
 use Rattle.kind.specs.Meaning.{Meaning}
 use Rattle.network.specs.Graph.{Graph}
 use Rattle.network.specs.Offsets.{Link}

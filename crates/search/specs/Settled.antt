@@ -1,10 +1,9 @@
 -- Offsets read off the forest.
-use Rattle.std.specs.Prelude.{◌≡◌, ℕ, ◌+◌, ◌-◌, ◌*◌, ◌<◌, ◌≤◌, List, [], ◌∷◌, map, length, ◌≢◌, slice_index, slice_index_or}
+use Rattle.std.specs.Prelude.{◌≡◌, ℕ, ◌-◌, ◌*◌, List, map, length, ◌≢◌, slice_index, slice_index_or}
 use Rattle.kind.specs.Group.{Quantities}
 use Rattle.kind.specs.Meaning.{Meaning}
 use Rattle.network.specs.declared.Step.{Step}
 use Rattle.network.specs.declared.Step.TheVariants.{Forward, Backward}
-use Rattle.network.specs.Graph.{Graph}
 use Rattle.network.specs.Climb.{Climb}
 use Rattle.network.specs.Offsets.{tally, at, difference}
 use Rattle.search.specs.declared.link.Link.{Link as Record}

@@ -1,6 +1,6 @@
-use Rattle.std.proofs.Common.{◌≡◌, ℕ, zero, suc, ◌+◌, ◌-◌, ◌/◌, ◌%◌, ◌^◌, ◌<◌, ◌≤◌, true, List, [], ◌∷◌, ◌++◌, length, sym, refl, ap, subst, arith, rules}
+use Rattle.std.proofs.Common.{◌≡◌, ℕ, zero, suc, ◌-◌, ◌/◌, ◌%◌, ◌<◌, true, [], ◌∷◌, ◌++◌, refl, arith}
 use Rattle.std.specs.Fmt.{digit_glyph}
-use Rattle.text.specs.Writing.{Wrote, hex}
+use Rattle.text.specs.Writing.{hex}
 use Rattle.text.proofs.Writes.{byte, then, none}
 use Rattle.text.proofs.+put_hex.Goals as goal
 

@@ -4,4 +4,4 @@ use Rattle.report.proofs.Front.{one_word}
 use Rattle.report.proofs.file.entry_at.Goals as goal
 
 pub returns : goal.returns
-returns c = rw c.in-Some.ensures.0 (c.word-entry.ensures ∙ sym (one_word c.args.place c.in-Some.w (words_of c.in-Some.rest.now) (λ e. omega arith) (λ e. omega arith)))
+returns c = rw c.in-Some.ensures.0 (c.word_entry.ensures ∙ sym (one_word c.args.place c.in-Some.w (words_of c.in-Some.rest.now) (λ e. omega arith) (λ e. omega arith)))

@@ -12,5 +12,5 @@ returns g c =
     let k = c.args.k in
     record {
       bound = omega (arith, length-take-le k ts c.requires.1.1);
-      wrote = λ n h. then c.put-text-a.ensures.wrote (row_listed M (offset M (take k ts)) k n ts _ _ _ _ h.2 h.0 (holds_carrying M k ts h.2 h.3) c.put-row.ensures.wrote);
+      wrote = λ n h. then c.put_text-a.ensures.wrote (row_listed M (offset M (take k ts)) k n ts _ _ _ _ h.2 h.0 (holds_carrying M k ts h.2 h.3) c.put_row.ensures.wrote);
     }

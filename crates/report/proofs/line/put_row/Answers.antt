@@ -15,9 +15,9 @@ loop-t-preserved g c = (
       let M = g.K.Kind.meaning in
       let i = c.loop-t.t-index in
       let x = held M d c.args.totals.now i c.t-item.result c.t-item.is (omega arith) h in
-      let p = then (c.loop-t.invariant.1 d h) (then c.put-text-a.ensures.wrote (c.put-total-end.ensures.wrote x.0)) in
-      subst (λ q. Wrote c.args.row.now c.args.at (listed M d q) c.put-total-end.new.row c.put-total-end.result) (sym (add-one i))
-      (subst (λ q. Wrote c.args.row.now c.args.at (◌++◌ (listed M d i) (32 ∷ M.text q)) c.put-total-end.new.row c.put-total-end.result) x.1 p),
+      let p = then (c.loop-t.invariant.1 d h) (then c.put_text-a.ensures.wrote (c.put_total-end.ensures.wrote x.0)) in
+      subst (λ q. Wrote c.args.row.now c.args.at (listed M d q) c.put_total-end.new.row c.put_total-end.result) (sym (add-one i))
+      (subst (λ q. Wrote c.args.row.now c.args.at (◌++◌ (listed M d i) (32 ∷ M.text q)) c.put_total-end.new.row c.put_total-end.result) x.1 p),
 )
 
 pub returns : goal.returns

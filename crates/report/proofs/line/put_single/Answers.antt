@@ -3,4 +3,4 @@ use Rattle.text.proofs.Writes.{then}
 use Rattle.report.proofs.line.put_single.Goals as goal
 
 pub returns : goal.returns
-returns g c = record { bound = omega arith; wrote = λ h. then c.put-text-a.ensures.wrote (c.put-total.ensures.wrote h) }
+returns g c = record { bound = omega arith; wrote = λ h. then c.put_text-a.ensures.wrote (c.put_total.ensures.wrote h) }

@@ -12,7 +12,7 @@ loop-w-init c = (omega arith, none _ _)
 pub loop-w-preserved : goal.loop-w-preserved
 loop-w-preserved c = (
   omega arith,
-  rw (hexes_more c.args.steps.now c.loop-w.w-index (omega arith)) (then c.loop-w.invariant.1 c.put-word-end.ensures.wrote),
+  rw (hexes_more c.args.steps.now c.loop-w.w-index (omega arith)) (then c.loop-w.invariant.1 c.put_word-end.ensures.wrote),
 )
 
 pub returns : goal.returns

@@ -6,5 +6,5 @@ pub returns : goal.returns
 returns c = record {
   bound = omega arith;
   wrote = rw (← c.place.ensures, ← c.number.ensures)
-      (then c.put-text-a.ensures.wrote (then c.put-u32-b.ensures.wrote (then c.put-text-c.ensures.wrote (then c.put-u32-d.ensures.wrote c.put-text.ensures.wrote))));
+      (then c.put_text-a.ensures.wrote (then c.put_u32-b.ensures.wrote (then c.put_text-c.ensures.wrote (then c.put_u32-d.ensures.wrote c.put_text.ensures.wrote))));
 }

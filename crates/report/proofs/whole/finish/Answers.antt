@@ -11,14 +11,14 @@ returns-then-report-at g c kind capacity text h =
     let e = c.in-Some.ensures in
     cuts g.K.Kind.meaning kind capacity _ text _ _ _ _ _ _ _ _ _ _ (same_sizes _ _ _ _ _ _ c.loop-l.auto.totals c.loop-l.auto.numbers c.loop-l.auto.steps) _ _ (c.loop-l.invariant.1 kind capacity text h) e.1 (omega arith)
 
-pub slice-bounds-put-text-end : goal.slice-bounds-put-text-end
-slice-bounds-put-text-end g c = let e = c.in-Some.ensures in step_within g.K.Kind.meaning _ _ _ _ _ _ _ _ _ e.1
+pub slice_bounds-put_text-end : goal.slice_bounds-put_text-end
+slice_bounds-put_text-end g c = let e = c.in-Some.ensures in step_within g.K.Kind.meaning _ _ _ _ _ _ _ _ _ e.1
 
-pub slice-bounds-put-text-end-in-Some : goal.slice-bounds-put-text-end-in-Some
-slice-bounds-put-text-end-in-Some g c = let e = c.in-Some.ensures in sym (length-take-le _ _ (step_within g.K.Kind.meaning _ _ _ _ _ _ _ _ _ e.1))
+pub slice_bounds-put_text-end-in-Some : goal.slice_bounds-put_text-end-in-Some
+slice_bounds-put_text-end-in-Some g c = let e = c.in-Some.ensures in sym (length-take-le _ _ (step_within g.K.Kind.meaning _ _ _ _ _ _ _ _ _ e.1))
 
-pub put-text-at-requires : goal.put-text-at-requires
-put-text-at-requires g c =
+pub put_text-at-requires : goal.put_text-at-requires
+put_text-at-requires g c =
     let e = c.in-Some.ensures in
     omega (arith, length-take-le c.in-Some.l.bytes c.line.new.row (step_within g.K.Kind.meaning _ _ _ _ _ _ _ _ _ e.1))
 
@@ -29,8 +29,8 @@ pub loop-l-preserved : goal.loop-l-preserved
 loop-l-preserved g c =
     let e = c.in-Some.ensures in (
       omega (arith, length-take-le c.in-Some.l.bytes c.line.new.row (step_within g.K.Kind.meaning _ _ _ _ _ _ _ _ _ e.1)),
-      λ kind capacity text h. goes g.K.Kind.meaning kind capacity _ text _ _ _ _ _ _ _ _ _ _ _ _ (same_sizes _ _ _ _ _ _ c.loop-l.auto.totals c.loop-l.auto.numbers c.loop-l.auto.steps) _ _ _ _ (c.loop-l.invariant.1 kind capacity text h) e.1 c.put-text-at.ensures.wrote,
+      λ kind capacity text h. goes g.K.Kind.meaning kind capacity _ text _ _ _ _ _ _ _ _ _ _ _ _ (same_sizes _ _ _ _ _ _ c.loop-l.auto.totals c.loop-l.auto.numbers c.loop-l.auto.steps) _ _ _ _ (c.loop-l.invariant.1 kind capacity text h) e.1 c.put_text-at.ensures.wrote,
     )
 
 pub returns : goal.returns
-returns g c kind capacity text h = let e = c.in-default.ensures in ends g.K.Kind.meaning kind capacity _ text _ _ _ _ _ (c.loop-l.invariant.1 kind capacity text h) e.0
+returns g c kind capacity text h = let e = c.in_default.ensures in ends g.K.Kind.meaning kind capacity _ text _ _ _ _ _ (c.loop-l.invariant.1 kind capacity text h) e.0

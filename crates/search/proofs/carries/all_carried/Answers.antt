@@ -1,8 +1,8 @@
-use Rattle.std.proofs.Common.{◌≡◌, ℕ, zero, suc, ◌<◌, ◌≤◌, true, false, List, map, length, sym, refl, ap, ◌∙◌, subst, arith, below_more}
+use Rattle.std.proofs.Common.{ℕ, zero, suc, ◌<◌, false, List, map, length, sym, refl, subst, arith, below_more}
 use Rattle.std.proofs.lemmas.List.{length-map}
 use Rattle.std.proofs.lemmas.Bool.{both_ways}
 use Rattle.kind.specs.Group.{Quantities}
-use Rattle.network.specs.Offsets.{Link, at, Positions, Carried, Carries}
+use Rattle.network.specs.Offsets.{Link, at, Carried, Carries}
 use Rattle.search.specs.Records.{link_of}
 use Rattle.search.specs.Settled.{offset}
 use Rattle.search.proofs.Wiring.{link_here}

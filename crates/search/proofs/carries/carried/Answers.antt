@@ -1,4 +1,4 @@
-use Rattle.std.proofs.Common.{◌≡◌, sym, ap, ◌∙◌, arith}
+use Rattle.std.proofs.Common.{sym, ◌∙◌}
 use Rattle.search.specs.Settled.{offset}
 use Rattle.search.proofs.Carrying.{apart, level, side}
 use Rattle.search.proofs.carries.carried.Goals as goal

@@ -1,4 +1,4 @@
-use Rattle.std.proofs.Common.{◌≡◌, ℕ, ◌<◌, ◌≤◌, length, sym, refl, ap, ◌∙◌, subst, arith}
+use Rattle.std.proofs.Common.{◌≤◌, length, arith}
 use Rattle.search.proofs.Wiring.{wired}
 use Rattle.search.proofs.Verdicts.{reached, fits_carries}
 use Rattle.search.proofs.carries.carry.Goals as goal

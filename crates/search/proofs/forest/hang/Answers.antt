@@ -1,4 +1,4 @@
-use Rattle.std.proofs.Common.{◌≡◌, ℕ, suc, ◌+◌, ◌-◌, ◌<◌, ◌≤◌, List, length, set, Some, None, sym, refl, ap, ◌∙◌, subst, add-one, arith}
+use Rattle.std.proofs.Common.{◌≡◌, ℕ, suc, ◌+◌, ◌-◌, ◌≤◌, List, length, set, Some, None, sym, ap, ◌∙◌, subst, add-one, arith}
 use Rattle.network.specs.Graph.{Graph, place, start, end, reverse, Connected, Upto}
 use Rattle.network.specs.declared.Step.{Step}
 use Rattle.network.specs.declared.Step.TheVariants.{Forward, Backward}

@@ -1,4 +1,4 @@
-use Rattle.std.proofs.Common.{◌≡◌, length, sym, subst, arith}
+use Rattle.std.proofs.Common.{length, subst, arith}
 use Rattle.search.specs.Records.{graph_of}
 use Rattle.search.specs.Joined.{Joined}
 use Rattle.search.proofs.Joining.{none_grouped, all_joined}

@@ -1,4 +1,4 @@
-use Rattle.std.proofs.Common.{◌≡◌, ◌+◌, length, refl, subst, arith}
+use Rattle.std.proofs.Common.{◌+◌, length, refl, subst, arith}
 use Rattle.search.specs.Records.{Sound}
 use Rattle.search.specs.Joined.{label}
 use Rattle.search.specs.Grouped.{under}

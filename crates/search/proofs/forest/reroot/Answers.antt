@@ -1,10 +1,10 @@
-use Rattle.std.proofs.Common.{◌≡◌, length, refl, ◌∙◌, arith}
+use Rattle.std.proofs.Common.{length, refl, ◌∙◌, arith}
 use Rattle.network.specs.Graph.{Upto}
 use Rattle.network.proofs.Graph.{same}
 use Rattle.network.proofs.Turning.{begin}
 use Rattle.search.specs.Parents.{parents}
 use Rattle.search.specs.Records.{graph_of}
-use Rattle.search.proofs.Wiring.{Wired, wired}
+use Rattle.search.proofs.Wiring.{wired}
 use Rattle.search.proofs.Climbs.{joining_here, low_turned, row_again, row_near, row_others, row_fewer, row_done}
 use Rattle.search.proofs.forest.reroot.Goals as goal
 

@@ -1,4 +1,4 @@
-use Rattle.std.proofs.Common.{◌≡◌, ℕ, ◌+◌, ◌-◌, ◌<◌, List, length, set, sym, subst, arith}
+use Rattle.std.proofs.Common.{ℕ, ◌+◌, ◌-◌, ◌<◌, List, length, set, sym, subst, arith}
 use Rattle.search.specs.Joined.{label}
 use Rattle.search.specs.Grouped.{Rising}
 use Rattle.search.proofs.Groups.{wider, united, united_raised, united_leader}

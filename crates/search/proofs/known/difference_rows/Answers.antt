@@ -1,4 +1,4 @@
-use Rattle.std.proofs.Common.{◌≡◌, length, sym, ◌∙◌, subst, arith}
+use Rattle.std.proofs.Common.{sym, ◌∙◌, subst, arith}
 use Rattle.search.specs.Records.{Sound, On}
 use Rattle.search.specs.Known.{Tells}
 use Rattle.search.proofs.known.difference_rows.Goals as goal

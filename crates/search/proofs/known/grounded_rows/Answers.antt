@@ -1,4 +1,4 @@
-use Rattle.std.proofs.Common.{◌≡◌, length, sym, ◌∙◌, subst, arith}
+use Rattle.std.proofs.Common.{sym, ◌∙◌, subst, arith}
 use Rattle.search.specs.Records.{Sound}
 use Rattle.search.specs.Known.{Grounded}
 use Rattle.search.proofs.known.grounded_rows.Goals as goal

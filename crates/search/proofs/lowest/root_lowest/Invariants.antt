@@ -1,4 +1,4 @@
-use Rattle.std.proofs.Common.{◌≡◌, length}
+use Rattle.std.proofs.Common.{length}
 use Rattle.search.specs.Records.{graph_of}
 use Rattle.search.specs.Rooted.{Rooted}
 use Rattle.search.proofs.lowest.root_lowest.Given as goal

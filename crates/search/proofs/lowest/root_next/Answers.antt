@@ -1,4 +1,4 @@
-use Rattle.std.proofs.Common.{◌≡◌, ◌-◌, length, get_or, refl}
+use Rattle.std.proofs.Common.{length, get_or, refl}
 use Rattle.search.specs.Records.{graph_of}
 use Rattle.search.proofs.Rooting.{passed, room, met_first}
 use Rattle.search.proofs.lowest.root_next.Goals as goal

@@ -1,4 +1,4 @@
-use Rattle.std.proofs.Common.{◌≡◌, sym, ap, ◌∙◌, arith}
+use Rattle.std.proofs.Common.{ap, ◌∙◌, arith}
 use Rattle.network.specs.Graph.{place}
 use Rattle.search.proofs.Gaps.{forward, backward}
 use Rattle.search.proofs.offsets.before.Goals as goal

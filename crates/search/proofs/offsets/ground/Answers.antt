@@ -1,4 +1,4 @@
-use Rattle.std.proofs.Common.{◌≡◌, ◌-◌, ◌<◌, ◌≤◌, length, set, sym, refl, ap, ◌∙◌, subst, arith}
+use Rattle.std.proofs.Common.{◌-◌, ◌<◌, ◌≤◌, length, set, sym, subst, arith}
 use Rattle.search.specs.Settled.{Settled}
 use Rattle.search.proofs.Settling.{grounded, marked, mark_keeps}
 use Rattle.search.proofs.offsets.ground.Goals as goal

@@ -1,4 +1,4 @@
-use Rattle.std.proofs.Common.{◌≡◌, ◌-◌, ◌<◌, ◌≤◌, length, set, sym, refl, ap, ◌∙◌, subst, arith}
+use Rattle.std.proofs.Common.{◌-◌, ◌<◌, ◌≤◌, length, set, sym, ◌∙◌, subst, arith}
 use Rattle.network.proofs.Climb.{clash}
 use Rattle.search.specs.Parents.{parents}
 use Rattle.search.specs.Settled.{Settled}

@@ -1,7 +1,7 @@
-use Rattle.std.proofs.Common.{◌≡◌, ℕ, suc, ◌+◌, ◌-◌, ◌<◌, ◌≤◌, List, [], ◌∷◌, ◌++◌, length, get_or, set, sym, refl, ap, ◌∙◌, subst, arith, length-append, length-set, get_or-set_same}
+use Rattle.std.proofs.Common.{◌≡◌, ◌+◌, ◌<◌, ◌≤◌, [], ◌∷◌, ◌++◌, length, sym, refl, ap, ◌∙◌, arith, length-append, length-set, get_or-set_same}
 use Rattle.search.specs.Parents.{parents}
-use Rattle.search.specs.Records.{graph_of, On}
-use Rattle.search.proofs.Wiring.{Wired, wired}
+use Rattle.search.specs.Records.{graph_of}
+use Rattle.search.proofs.Wiring.{wired}
 use Rattle.search.proofs.Climbs.{ups_at}
 use Rattle.search.proofs.Ways.{joins, next_on, next_less, leads_on, fewer_yet}
 use Rattle.search.proofs.Stacking.{chain_first, chain_more, new_top, same_first}

@@ -1,6 +1,5 @@
-use Rattle.std.proofs.Common.{◌≡◌, ℕ, suc, ◌+◌, ◌-◌, ◌<◌, ◌≤◌, length, get_or, sym, refl, ap, ◌∙◌, subst, arith}
-use Rattle.search.specs.Parents.{parents}
-use Rattle.search.specs.Records.{graph_of, On}
+use Rattle.std.proofs.Common.{◌≡◌, ◌-◌, ◌≤◌, length, get_or, ap, ◌∙◌, arith}
+use Rattle.search.specs.Records.{graph_of}
 use Rattle.search.proofs.Stacking.{shorter, below}
 use Rattle.search.proofs.offsets.settle.Goals as goal
 

@@ -1,5 +1,5 @@
-use Rattle.std.proofs.Common.{◌≡◌, ℕ, ◌-◌, ◌<◌, ◌≤◌, length, get_or}
-use Rattle.search.specs.Records.{graph_of, On}
+use Rattle.std.proofs.Common.{◌≡◌, ◌-◌, ◌<◌, length, get_or}
+use Rattle.search.specs.Records.{graph_of}
 use Rattle.search.specs.Chain.{Chain}
 use Rattle.search.specs.Settled.{Settled, Kept}
 use Rattle.search.proofs.offsets.settle.Given as goal

@@ -1,6 +1,6 @@
-use Rattle.std.proofs.Common.{◌≡◌, List, [], ◌∷◌, ◌++◌, length, sym, refl, ap, ◌∙◌, subst, arith}
-use Rattle.search.specs.Records.{graph_of, On}
-use Rattle.search.proofs.Wiring.{Wired, wired}
+use Rattle.std.proofs.Common.{[], ◌∷◌, ◌++◌, length, arith}
+use Rattle.search.specs.Records.{graph_of}
+use Rattle.search.proofs.Wiring.{wired}
 use Rattle.search.proofs.Ways.{nothing, more, joins, next_on, next_less, leads_on, fewer_yet, at_root}
 use Rattle.search.proofs.path.climb.Goals as goal
 

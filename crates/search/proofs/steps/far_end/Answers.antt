@@ -1,4 +1,4 @@
-use Rattle.std.proofs.Common.{◌≡◌, ◌≤◌, length, sym, ap, ◌∙◌, arith}
+use Rattle.std.proofs.Common.{sym, ap, ◌∙◌, arith}
 use Rattle.network.specs.Graph.{place, end}
 use Rattle.search.specs.Records.{first, second, graph_of}
 use Rattle.search.proofs.Wiring.{read_at}

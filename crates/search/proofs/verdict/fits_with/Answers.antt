@@ -1,4 +1,4 @@
-use Rattle.std.proofs.Common.{◌≡◌, ℕ, ◌<◌, ◌≤◌, true, false, List, map, length, sym, refl, ap, ◌∙◌, subst, arith}
+use Rattle.std.proofs.Common.{false, map, length, refl}
 use Rattle.std.proofs.lemmas.Bool.{both_ways}
 use Rattle.network.proofs.Lists.{theory}
 use Rattle.search.specs.Records.{link_of}

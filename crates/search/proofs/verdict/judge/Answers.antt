@@ -1,4 +1,4 @@
-use Rattle.std.proofs.Common.{◌≡◌, ℕ, ◌<◌, ◌≤◌, length, sym, refl, ap, ◌∙◌, subst, arith}
+use Rattle.std.proofs.Common.{◌≡◌, length, sym, refl, ◌∙◌, subst, arith}
 use Rattle.search.specs.Records.{Sound, On, graph_of}
 use Rattle.search.specs.Joined.{Joined}
 use Rattle.search.proofs.verdict.judge.Goals as goal

@@ -1,4 +1,4 @@
-use Rattle.std.proofs.Common.{◌≡◌, ◌≤◌, length, sym, subst, arith}
+use Rattle.std.proofs.Common.{◌≡◌, length, sym, subst, arith}
 use Rattle.search.specs.Records.{Sound}
 use Rattle.search.specs.Settled.{Reached}
 use Rattle.search.proofs.verdict.survey.Goals as goal

@@ -1,4 +1,4 @@
-use Rattle.std.proofs.Common.{◌≡◌, ℕ, ◌<◌, ◌≤◌, length, sym, refl, ap, ◌∙◌, subst, arith}
+use Rattle.std.proofs.Common.{◌≡◌, length, sym, subst, arith}
 use Rattle.search.specs.Records.{Sound, On}
 use Rattle.search.proofs.Verdicts.{shown_none, shown_way}
 use Rattle.search.proofs.verdict.way_back.Goals as goal

@@ -1,4 +1,4 @@
-use Rattle.std.proofs.Common.{◌≡◌, ℕ, ◌-◌, ◌≤◌, length, get_or, sym, refl, ap, ◌∙◌, subst, inl, inr, arith}
+use Rattle.std.proofs.Common.{◌≡◌, ◌-◌, ◌≤◌, length, get_or, sym, refl, ap, ◌∙◌, inl, inr, arith}
 use Rattle.network.specs.Graph.{start, place}
 use Rattle.book.specs.Memory.{state_of, records}
 use Rattle.calls.specs.Standing.{plan}

@@ -1,7 +1,5 @@
-use Rattle.std.proofs.Common.{◌≡◌, ℕ, suc, ◌<◌, ◌≤◌, true, false, refl, inl, inr, arith, rules}
+use Rattle.std.proofs.Common.{suc, refl, inl, inr, arith}
 use Rattle.std.proofs.lemmas.Bool.{both_ways}
-use Rattle.calls.specs.Standing.{Stands}
-use Rattle.book.specs.Memory.{state_of}
 use Rattle.book.specs.Search.{Joins}
 use Rattle.book.proofs.Places.{stands, absent}
 use Rattle.book.proofs.Walks.{standing_count}

@@ -1,11 +1,11 @@
-use Rattle.std.proofs.Common.{◌≡◌, ℕ, ◌-◌, ◌≤◌, List, [], ◌∷◌, map, length, take, sym, refl, ap, ◌∙◌, subst, inl, inr, ⊎_elim, arith}
+use Rattle.std.proofs.Common.{◌≡◌, ℕ, ◌-◌, ◌≤◌, length, take, refl, subst, inl, inr, ⊎_elim, arith}
 use Rattle.std.proofs.lemmas.List.{length-take-le}
 use Rattle.std.proofs.lemmas.Bool.{both_ways}
-use Rattle.calls.specs.State.{OFFSET, total, refused}
-use Rattle.calls.specs.Calls.{Right, unchanged, by_offset}
+use Rattle.calls.specs.State.{OFFSET, total}
+use Rattle.calls.specs.Calls.{unchanged, by_offset}
 use Rattle.calls.specs.Verdicts.{Posed}
 use Rattle.calls.proofs.Asking.{offset_torn, offset_apart, offset_known}
-use Rattle.search.specs.Records.{Sound, link_of}
+use Rattle.search.specs.Records.{Sound}
 use Rattle.search.specs.Known.{Tells}
 use Rattle.search.specs.declared.known.Between.TheVariants.{Torn, Apart, Known}
 use Rattle.book.specs.Memory.{state_of, rows_of}

@@ -1,6 +1,6 @@
-use Rattle.std.proofs.Common.{◌≡◌, ℕ, ◌<◌, ◌≤◌, List, [], ◌∷◌, ◌++◌, length, take, drop, sym, refl, ap, subst, arith}
+use Rattle.std.proofs.Common.{◌≡◌, ◌≤◌, length, take, sym, refl, subst, arith}
 use Rattle.calls.specs.declared.Refusal.TheVariants.{Contradicts}
-use Rattle.calls.specs.State.{State, LINK, done, refused}
+use Rattle.calls.specs.State.{LINK, done, refused}
 use Rattle.calls.specs.Calls.{Right, Next, unchanged, by_link}
 use Rattle.calls.proofs.Linking.{judged, fitting}
 use Rattle.network.specs.Words.{steps_of}

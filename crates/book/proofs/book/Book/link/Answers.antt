@@ -1,12 +1,8 @@
-use Rattle.std.proofs.Common.{◌≡◌, ℕ, ◌≤◌, List, map, length, take, sym, refl, ap, ◌∙◌, subst, arith}
+use Rattle.std.proofs.Common.{◌≤◌, length, take, arith}
 use Rattle.std.proofs.lemmas.List.{length-take-le}
-use Rattle.calls.specs.State.{Answer, refused}
-use Rattle.calls.specs.declared.Refusal.TheVariants.{Contradicts}
 use Rattle.calls.proofs.Linking.{verdict, reads_back}
-use Rattle.network.specs.declared.Step.{Step}
-use Rattle.network.specs.Words.{word, steps_of}
 use Rattle.search.specs.Records.{link_of}
-use Rattle.book.specs.Memory.{state_of, rows_of, shown_answer, shown}
+use Rattle.book.specs.Memory.{state_of, rows_of, shown}
 use Rattle.book.proofs.Told.{shown_words}
 use Rattle.book.proofs.Walks.{standing_count}
 use Rattle.book.proofs.book.Book.link.Goals as goal

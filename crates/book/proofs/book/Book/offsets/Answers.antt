@@ -1,8 +1,8 @@
-use Rattle.std.proofs.Common.{◌≡◌, ℕ, ◌-◌, ◌≤◌, true, false, List, [], ◌∷◌, map, length, take, sym, refl, ap, ◌∙◌, subst, inl, inr, ⊎_elim, arith}
+use Rattle.std.proofs.Common.{◌≡◌, ℕ, ◌-◌, ◌≤◌, map, length, take, refl, subst, inl, ⊎_elim, arith}
 use Rattle.std.proofs.lemmas.List.{length-take-le}
 use Rattle.std.proofs.lemmas.Bool.{both_ways}
-use Rattle.calls.specs.State.{OFFSETS, offsets, refused}
-use Rattle.calls.specs.Calls.{Right, unchanged, by_offsets}
+use Rattle.calls.specs.State.{OFFSETS, offsets}
+use Rattle.calls.specs.Calls.{unchanged, by_offsets}
 use Rattle.calls.proofs.Asking.{offsets_torn, offsets_carried}
 use Rattle.network.specs.Offsets.{Fits}
 use Rattle.search.specs.Records.{Sound, link_of}

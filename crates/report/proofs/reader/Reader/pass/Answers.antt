@@ -5,34 +5,34 @@ use Rattle.report.specs.Reading.{reading_of}
 use Rattle.report.proofs.Long.{ahead_fits, moved, within, bounded}
 use Rattle.report.proofs.reader.Reader.pass.Goals as goal
 
-pub overflow-cast-self : goal.overflow-cast-self
-overflow-cast-self c =
-    let b = bounded (reading_of c.args.self.now.at) (item_of c.args.e) c.words-taken-taken.result c.requires c.args.self.now.placed c.words-taken-taken.ensures in
+pub overflow_cast-self : goal.overflow_cast-self
+overflow_cast-self c =
+    let b = bounded (reading_of c.args.self.now.at) (item_of c.args.e) c.words_taken-taken.result c.requires c.args.self.now.placed c.words_taken-taken.ensures in
     search rules
 
-pub overflow-add-self : goal.overflow-add-self
-overflow-add-self c =
-    let b = bounded (reading_of c.args.self.now.at) (item_of c.args.e) c.words-taken-taken.result c.requires c.args.self.now.placed c.words-taken-taken.ensures in
+pub overflow_add-self : goal.overflow_add-self
+overflow_add-self c =
+    let b = bounded (reading_of c.args.self.now.at) (item_of c.args.e) c.words_taken-taken.result c.requires c.args.self.now.placed c.words_taken-taken.ensures in
     search rules
 
-pub overflow-mul-self : goal.overflow-mul-self
-overflow-mul-self c =
-    let b = bounded (reading_of c.args.self.now.at) (item_of c.args.e) c.words-taken-taken.result c.requires c.args.self.now.placed c.words-taken-taken.ensures in
+pub overflow_mul-self : goal.overflow_mul-self
+overflow_mul-self c =
+    let b = bounded (reading_of c.args.self.now.at) (item_of c.args.e) c.words_taken-taken.result c.requires c.args.self.now.placed c.words_taken-taken.ensures in
     search rules
 
-pub slice-bounds-self-count : goal.slice-bounds-self-count
-slice-bounds-self-count c = omega (arith, (ahead_fits (reading_of c.args.self.now.at) (item_of c.args.e) c.requires).0)
+pub slice_bounds-self-count : goal.slice_bounds-self-count
+slice_bounds-self-count c = omega (arith, (ahead_fits (reading_of c.args.self.now.at) (item_of c.args.e) c.requires).0)
 
-pub slice-bounds-self-start : goal.slice-bounds-self-start
-slice-bounds-self-start c = let h = (ahead_fits (reading_of c.args.self.now.at) (item_of c.args.e) c.requires).0 in search rules
+pub slice_bounds-self-start : goal.slice_bounds-self-start
+slice_bounds-self-start c = let h = (ahead_fits (reading_of c.args.self.now.at) (item_of c.args.e) c.requires).0 in search rules
 
-pub invariant-of-self : goal.invariant-of-self
-invariant-of-self c =
+pub invariant_of-self : goal.invariant_of-self
+invariant_of-self c =
     let bs = c.args.self.now.at.rest.now in
     let f = ahead_fits (reading_of c.args.self.now.at) (item_of c.args.e) c.requires in
-    let l = ap length (take_rest bs (4 * c.words-taken-taken.result)) in
-    let k : 4 * c.words-taken-taken.result ≤ length bs = omega (arith, f.0) in
-    ((λ _. within c.args.self.now.at.read c.words-taken-taken.result (length bs) _ c.args.self.now.placed f.1 k (l ∙ length-drop (4 * c.words-taken-taken.result) bs)), tt)
+    let l = ap length (take_rest bs (4 * c.words_taken-taken.result)) in
+    let k : 4 * c.words_taken-taken.result ≤ length bs = omega (arith, f.0) in
+    ((λ _. within c.args.self.now.at.read c.words_taken-taken.result (length bs) _ c.args.self.now.placed f.1 k (l ∙ length-drop (4 * c.words_taken-taken.result) bs)), tt)
 
 pub returns : goal.returns
-returns c = moved c.args.self.now.at.kind c.args.self.now.at.rest.now c.args.self.now.at.read c.words-taken-taken.result _ c.args.self.now.at.ended c.words-taken-taken.ensures
+returns c = moved c.args.self.now.at.kind c.args.self.now.at.rest.now c.args.self.now.at.read c.words_taken-taken.result _ c.args.self.now.at.ended c.words_taken-taken.ensures

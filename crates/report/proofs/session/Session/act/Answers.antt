@@ -29,4 +29,4 @@ returns g c =
     let w = c.show-bytes.ensures.wrote n (numberless M n r ts ns ss d.backed) in
     rw c.pass.ensures
     (did (item_of c.args.e) (outcome_of M r (lent_of ts ns ss)) _ c.requires.0 d.does (subst (λ o. Wrote c.args.row.now 0 (line_of M n (item_of c.args.e) o) c.show-bytes.new.row c.show-bytes.result) (same_outcome M r ts ns ss) w)
-    (c.fault-in.ensures ∙ ap (λ p. reply_fault p r) c.first-word-first.ensures.value ∙ told_fault M _ n r (lent_of ts ns ss) d.backed) d.left)
+    (c.fault_in.ensures ∙ ap (λ p. reply_fault p r) c.first_word-first.ensures.value ∙ told_fault M _ n r (lent_of ts ns ss) d.backed) d.left)

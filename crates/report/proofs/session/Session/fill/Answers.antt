@@ -9,9 +9,9 @@ use Rattle.report.proofs.session.Session.fill.Goals as goal
 pub loop-report-init : goal.loop-report-init
 loop-report-init g c = (omega arith, λ kind capacity text h f x. started g.K.Kind.meaning kind capacity _ text h f _ _ _ x)
 
-pub returns-in-default : goal.returns-in-default
-returns-in-default g c =
-    let e = c.in-default.ensures in
+pub returns-in_default : goal.returns-in_default
+returns-in_default g c =
+    let e = c.in_default.ensures in
     let at = c.loop-report.at in
     let b = c.loop-report.report in
     let back : put_mid at (length b - at) b c.line.new.row ≡ b = ap (put_mid at (length b - at) b) e.1 ∙ put_same at (length b - at) b in
@@ -24,8 +24,8 @@ returns-in-default g c =
       more = λ q. let z : ◌≡◌ {A = ℕ} 0 1 = cc in absurd (omega arith);
     }
 
-pub overflow-add-at : goal.overflow-add-at
-overflow-add-at g c =
+pub overflow_add-at : goal.overflow_add-at
+overflow_add-at g c =
     let e = c.in-Some.ensures in
     let l = step_within g.K.Kind.meaning _ _ _ _ _ _ _ _ _ e.1 in
     let k = c.line.auto.row in
