@@ -11,6 +11,6 @@ returns g c =
     let ts = c.args.totals.now in
     let k = c.args.k in
     record {
-      bound = omega (arith, length-take-le k ts c.requires.1.1);
+      bound = omega (arith, length-take-le k ts c.requires.k_bound.1);
       wrote = λ n h. then c.put_text-a.ensures.wrote (row_listed M (offset M ts) k n ts _ _ _ _ h.2 h.0 (holds_least M k ts h.2 h.3) c.put_row.ensures.wrote);
     }
