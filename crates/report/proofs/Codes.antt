@@ -1,10 +1,9 @@
 -- What is written is read back.
-use Rattle.std.proofs.Common.{◌≡◌, ℕ, ◌+◌, ◌*◌, ◌/◌, ◌%◌, ◌^◌, ◌<◌, ◌≤◌, List, [], ◌∷◌, ◌++◌, length, take, sym, refl, ap, ◌∙◌, arith, length-append, take_all}
+use Rattle.std.proofs.Common.{◌≡◌, ◌+◌, ◌*◌, ◌%◌, ◌^◌, ◌++◌, length, take, refl, ◌∙◌, arith, length-append, take_all}
 use lib.Seq.{take-append-le}
 use Rattle.std.proofs.lemmas.Bool.Decides.{nat_tests}
-use Rattle.report.specs.Words.{signed28, sort, body, first, second}
-use Rattle.report.specs.Entries.{Item, size, link, strike, offset, all_offsets, realise, issue, recall, walk, entry_of}
-use Rattle.report.specs.Coded.{kinded, Coded, of_size, of_link, of_strike, of_offset, of_offsets, of_realise, of_issue, of_recall, of_walk, ReadsBack}
+use Rattle.report.specs.Words.{sort, body, first, second}
+use Rattle.report.specs.Coded.{kinded, of_size, of_link, of_strike, of_offset, of_offsets, of_realise, of_issue, of_recall, of_walk, ReadsBack}
 
 pub reads_back : ReadsBack
 reads_back p _ _ rest (of_size n h) =

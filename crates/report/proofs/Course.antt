@@ -1,5 +1,5 @@
 -- A file's calls done one after another, with their lines put into a row.
-use Rattle.std.proofs.Common.{◌≡◌, ℕ, zero, suc, ◌+◌, ◌-◌, ◌*◌, ◌<◌, ◌≤◌, Bool, true, false, cond, List, [], ◌∷◌, ◌++◌, length, take, drop, Some, None, Ok, Err, Option, sym, refl, ap, ◌∙◌, subst, append_assoc, append-nil, arith, length-append, length-drop}
+use Rattle.std.proofs.Common.{◌≡◌, ℕ, ◌+◌, ◌*◌, ◌<◌, ◌≤◌, cond, List, [], ◌∷◌, ◌++◌, length, take, Some, None, Ok, Err, Option, sym, refl, ap, ◌∙◌, subst, append_assoc, append-nil, arith, length-drop}
 use Rattle.std.proofs.lemmas.Bool.Decides.{nat_tests}
 use Rattle.std.proofs.lemmas.List.{length-take}
 use Rattle.kind.specs.Meaning.{Meaning}
@@ -9,10 +9,10 @@ use Rattle.calls.specs.Calls as calls
 use Rattle.text.specs.Writing.{Wrote}
 use Rattle.text.proofs.Writes as writes
 use Rattle.report.specs.Reading.{Reading, unread, ahead, past, shut}
-use Rattle.report.specs.Entries.{Item, size, link, strike, offset, all_offsets, realise, issue, recall, walk, taken, width}
-use Rattle.report.specs.Doing.{Outcome, unmade, answered, Asks, Does, unmeasured, unwanted, called, Lent, sizes}
+use Rattle.report.specs.Entries.{Item, size, link, strike, offset, all_offsets, realise, issue, recall, walk, taken}
+use Rattle.report.specs.Doing.{Outcome, Does, unmeasured, unwanted, called, Lent, sizes}
 use Rattle.report.specs.Lines.{line_of, fault_line}
-use Rattle.report.specs.History.{Step, did, failed, History, opened, then, broken, lines_of, report_of, Report, Cut, Made, none, skipped, called_on, Follows, line_of_entry, line_of_fault, Onward}
+use Rattle.report.specs.History.{Step, did, failed, History, opened, then, broken, report_of, Report, Cut, Made, none, skipped, called_on, line_of_entry, line_of_fault, Onward}
 use Rattle.report.specs.declared.file.FileFault.{FileFault}
 use Rattle.report.specs.declared.file.FileKind.{FileKind}
 use Rattle.report.specs.declared.session.Line.{Line}

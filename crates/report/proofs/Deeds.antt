@@ -1,27 +1,25 @@
 -- Replies that tell what a call of a file did.
-use Rattle.std.proofs.Common.{◌≡◌, ℕ, ◌-◌, ◌*◌, ◌≤◌, List, [], ◌∷◌, map, length, take, drop, ℤ, IsErrAnd, Some, None, Ok, Err, Result, sym, refl, ap, ◌∙◌, subst, arith, w32, SFits, to_z, of_z}
+use Rattle.std.proofs.Common.{◌≡◌, ℕ, ◌-◌, ◌*◌, ◌≤◌, List, [], map, length, take, drop, ℤ, IsErrAnd, Some, Ok, Err, Result, sym, refl, ap, subst, arith, w32, SFits, to_z, of_z}
 use lib.ListN.{length-map}
 use Rattle.std.proofs.lemmas.List.{length-take-le, get_or-take}
 use Rattle.std.proofs.lemmas.Int.{to_z-of_z}
 use Rattle.kind.specs.Meaning.{Meaning}
 use Rattle.network.specs.Words.{word, steps_of}
-use Rattle.network.specs.declared.Step.{Step}
 use Rattle.calls.specs.declared.Refusal.{Refusal}
-use Rattle.calls.specs.State.{State, Call, Answer, Rows, WALK, OFFSET, OFFSETS, REALISE, done, total, totals, offsets, refused}
+use Rattle.calls.specs.State.{State, Call, Rows, WALK, OFFSETS, done, total, totals, offsets, refused}
 use Rattle.calls.specs.Calls.{Right, yields, Next}
 use Rattle.calls.proofs.Linking.{at_most}
 use Rattle.book.specs.declared.store.Refused.{Refused}
-use Rattle.book.specs.declared.store.Store.{Store}
 use Rattle.search.specs.Settled.{offset as meant}
-use Rattle.book.specs.Memory.{RowsLeft, RowsUsed, Answered, state_of}
-use Rattle.report.specs.Entries.{Item, size, link, strike, offset, all_offsets, realise, issue, recall, walk}
+use Rattle.book.specs.Memory.{RowsLeft, RowsUsed}
+use Rattle.report.specs.Entries.{Item, link, walk}
 use Rattle.report.specs.declared.fault.LatencyFault.{LatencyFault}
 use Rattle.report.specs.declared.fault.LatencyFault.TheVariants.{Measured, Wanted}
 use Rattle.report.specs.declared.fault.CallFault.{CallFault}
 use Rattle.report.specs.declared.fault.CallFault.TheVariants.{Latency, Book}
 use Rattle.report.specs.declared.fault.Good.{Good}
 use Rattle.report.specs.declared.fault.Good.TheVariants.{Done, Total, Totals, Offsets, Schedule}
-use Rattle.report.specs.Doing.{Outcome, unmade, answered, Asks, for_walk, for_offset, for_offsets, for_realise, Does, unmeasured, unwanted, called, Lent, lent_of, sizes, Left, Early, Unread, Unasked, Did, Made, Backed, Near, Room, outcome_of}
+use Rattle.report.specs.Doing.{Outcome, answered, Asks, for_walk, Does, unmeasured, unwanted, called, Lent, lent_of, sizes, Early, Unread, Unasked, Did, Made, Backed, Near, Room, outcome_of}
 use Rattle.report.specs.Faults.{fault_of, reply_fault}
 use Rattle.report.specs.declared.fault.Fault.TheVariants.{Call as OfCall}
 

@@ -1,5 +1,5 @@
 -- What a call of a file does to a book, and to the rows that are lent for it.
-use Rattle.std.specs.Prelude.{◌≡◌, ℕ, ◌-◌, ◌*◌, ◌≤◌, ◌⊎◌, List, [], ◌∷◌, map, length, take, drop, ℤ, Some, None, Ok, Err, Result, ◌≢◌, slice_index_or}
+use Rattle.std.specs.Prelude.{◌≡◌, ℕ, ◌-◌, ◌*◌, ◌≤◌, ◌⊎◌, List, [], map, length, take, drop, ℤ, Some, None, Ok, Err, Result, ◌≢◌, slice_index_or}
 use Rattle.kind.specs.Meaning.{Meaning}
 use Rattle.network.specs.declared.Step.{Step}
 use Rattle.network.specs.Words.{word, steps_of}

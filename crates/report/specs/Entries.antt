@@ -1,5 +1,5 @@
 -- What a file says next: a call with its words, a fault, or nothing more.
-use Rattle.std.specs.Prelude.{ℕ, zero, suc, ◌+◌, ◌%◌, Bool, true, false, cond, List, [], ◌∷◌, length, take, ℤ, Some, None, Ok, Err, Option, Result, ◌==◌, nat_lt}
+use Rattle.std.specs.Prelude.{ℕ, ◌+◌, ◌%◌, cond, List, [], ◌∷◌, length, take, ℤ, Some, None, Ok, Err, Option, Result, ◌==◌, nat_lt}
 use Rattle.report.specs.Words.{words_of, sort, body, first, second, signed28}
 use Rattle.report.specs.declared.file.Entry.{Entry}
 use Rattle.report.specs.declared.file.Entry.TheVariants.{Size, Link, Strike, Offset, Offsets, Realise, Issue, Recall, Walk}

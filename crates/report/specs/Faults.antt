@@ -1,6 +1,6 @@
 -- The fault that a line tells: its layer, its number and its place.
 use Rattle.std.specs.Prelude.{ℕ, ◌+◌, length, Some, None, Ok, Err, Option, Result}
-use Rattle.calls.specs.State.{Answer, done, total, totals, offsets, refused}
+use Rattle.calls.specs.State.{done, total, totals, offsets, refused}
 use Rattle.calls.specs.Refusals.{number_of}
 use Rattle.report.specs.Entries.{file_number, file_place}
 use Rattle.report.specs.Doing.{Outcome, unmade, answered}

@@ -4,7 +4,7 @@ use Rattle.text.specs.Writing.{hex}
 use Rattle.kind.specs.Meaning.{Meaning}
 use Rattle.network.specs.Words.{word}
 use Rattle.search.specs.Records.{On}
-use Rattle.calls.specs.State.{Answer, done, total, totals, offsets, refused}
+use Rattle.calls.specs.State.{done, total, totals, offsets, refused}
 use Rattle.calls.specs.Refusals.{number_of}
 use Rattle.report.specs.Entries.{Item, size, link, strike, offset, all_offsets, realise, issue, recall, walk, file_number, file_place}
 use Rattle.report.specs.Doing.{Outcome, unmade, answered}

@@ -1,5 +1,5 @@
 use Rattle.std.proofs.Common.{Ok, Err}
-use Rattle.report.specs.Doing.{for_link, lent_of}
+use Rattle.report.specs.Doing.{for_link}
 use Rattle.report.proofs.Deeds.{as_passed, no_latency, linked, turned}
 use Rattle.report.proofs.doing.do_link.Goals as goal
 

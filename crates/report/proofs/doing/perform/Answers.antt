@@ -1,4 +1,4 @@
-use Rattle.std.proofs.Common.{◌≡◌, sym, ap, subst}
+use Rattle.std.proofs.Common.{ap}
 use Rattle.calls.specs.State.{SIZE, STRIKE, ISSUE, RECALL}
 use Rattle.report.specs.Entries.{item_of}
 use Rattle.report.specs.Doing.{for_size, for_strike, for_issue, for_recall}

@@ -1,4 +1,4 @@
-use Rattle.std.proofs.Common.{◌≡◌, ◌/◌, ◌^◌, sym, ◌∙◌, arith}
+use Rattle.std.proofs.Common.{sym, ◌∙◌, arith}
 use Rattle.report.specs.Words.{words_of}
 use Rattle.report.proofs.Front.{one_word}
 use Rattle.report.proofs.file.entry_at.Goals as goal

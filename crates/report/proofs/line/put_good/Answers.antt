@@ -1,4 +1,3 @@
-use Rattle.std.proofs.Common.{◌≡◌, sym, subst, arith, rules}
 use Rattle.report.proofs.line.put_good.Goals as goal
 
 pub returns-in-Offsets : goal.returns-in-Offsets

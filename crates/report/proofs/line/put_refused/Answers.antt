@@ -1,4 +1,4 @@
-use Rattle.std.proofs.Common.{length, take, ap, arith}
+use Rattle.std.proofs.Common.{arith}
 use Rattle.std.proofs.lemmas.List.{length-take-le}
 use Rattle.text.proofs.Writes.{then}
 use Rattle.report.proofs.line.put_refused.Goals as goal

@@ -1,4 +1,4 @@
-use Rattle.std.proofs.Common.{◌≡◌, ℕ, suc, ◌+◌, ◌-◌, ◌∷◌, ◌++◌, length, get_or, sym, ap, ◌∙◌, subst, add-one, arith}
+use Rattle.std.proofs.Common.{◌≡◌, ◌∷◌, ◌++◌, length, sym, subst, add-one, arith}
 use Rattle.text.specs.Writing.{Wrote}
 use Rattle.text.proofs.Writes.{then, none}
 use Rattle.report.specs.Lines.{listed}

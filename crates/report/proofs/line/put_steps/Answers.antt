@@ -1,4 +1,4 @@
-use Rattle.std.proofs.Common.{ℕ, List, subst, arith, rules}
+use Rattle.std.proofs.Common.{ℕ, List, subst, arith}
 use Rattle.text.specs.Writing.{Wrote}
 use Rattle.report.specs.Lines.{hexes}
 use Rattle.text.proofs.Writes.{then, none}

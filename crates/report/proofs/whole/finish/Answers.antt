@@ -1,4 +1,4 @@
-use Rattle.std.proofs.Common.{◌≡◌, length, take, sym, refl, ap, ◌∙◌, subst, arith}
+use Rattle.std.proofs.Common.{sym, arith}
 use Rattle.std.proofs.lemmas.List.{length-take-le}
 use Rattle.report.proofs.Course.{same_sizes, step_less, step_within, started, goes, cuts, ends}
 use Rattle.report.proofs.whole.finish.Goals as goal

@@ -1,4 +1,4 @@
-use Rattle.std.proofs.Common.{◌≡◌, ℕ, ◌≤◌, List, [], length, None}
+use Rattle.std.proofs.Common.{ℕ, ◌≤◌, List, [], length, None}
 use Rattle.book.specs.Memory.{state_of, rows_of}
 use Rattle.report.specs.Reading.{reading_of}
 use Rattle.report.specs.History.{History}

@@ -1,4 +1,4 @@
-use Rattle.std.proofs.Common.{◌≡◌, ap, ◌∙◌}
+use Rattle.std.proofs.Common.{ap, ◌∙◌}
 use Rattle.book.specs.Memory.{state_of}
 use Rattle.report.proofs.Course.{opens}
 use Rattle.report.proofs.whole.run.Goals as goal

@@ -1,4 +1,4 @@
-use Rattle.std.proofs.Common.{◌≡◌, ◌+◌, ◌-◌, ◌*◌, ◌≤◌, length, take, drop, sym, refl, ap, ◌∙◌, arith, length-drop, rules}
+use Rattle.std.proofs.Common.{◌*◌, ◌≤◌, length, ap, ◌∙◌, arith, length-drop, rules}
 use Rattle.std.proofs.lemmas.List.{take_rest}
 use Rattle.report.specs.Entries.{item_of}
 use Rattle.report.specs.Reading.{reading_of}

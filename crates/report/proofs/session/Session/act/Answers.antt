@@ -1,4 +1,4 @@
-use Rattle.std.proofs.Common.{◌≡◌, ap, ◌∙◌, subst, arith}
+use Rattle.std.proofs.Common.{ap, ◌∙◌, subst}
 use Rattle.text.specs.Writing.{Wrote}
 use Rattle.book.specs.Memory.{state_of}
 use Rattle.report.specs.History.{did}

@@ -1,4 +1,4 @@
-use Rattle.std.proofs.Common.{◌≡◌, ℕ, ◌≤◌, List, length, Option}
+use Rattle.std.proofs.Common.{ℕ, ◌≤◌, List, length, Option}
 use Rattle.book.specs.Memory.{state_of, rows_of}
 use Rattle.report.specs.Entries.{Item}
 use Rattle.report.specs.Doing.{Outcome}
