@@ -1,5 +1,5 @@
 use Rattle.std.proofs.Common.{◌≡◌, ℕ, ◌<◌, List, [], ◌∷◌, length, Some, None, Option, sym, refl, ap, ◌∙◌, subst, inl, inr, arith}
-use Rattle.std.specs.List.{AllByRecursion as All}
+use Rattle.std.specs.List.{AllByRecursion}
 use Rattle.network.specs.Graph.{Graph, end, Walk, Connected, Upto, Joining, switches, Distinct, Path}
 use Rattle.network.specs.declared.Step.{Step}
 use Rattle.network.specs.declared.Step.TheVariants.{Forward, Backward}
@@ -25,12 +25,12 @@ module _ (g : Graph) (up : ℕ → Option Step) where
       (λ n. st n ∷ ih.0 n, ih.1)
 
   -- a climb that is shorter than v's does not pass v
-  pub shorter_misses : (v : ℕ) (ts : List Step) (q : ℕ) → Climb g up v ts q → (w : ℕ) (ss : List Step) (r : ℕ) → Climb g up w ss r → length ss < length ts → All (λ y. y ≡ v → ⊥) (switches g w ss)
+  pub shorter_misses : (v : ℕ) (ts : List Step) (q : ℕ) → Climb g up v ts q → (w : ℕ) (ss : List Step) (r : ℕ) → Climb g up w ss r → length ss < length ts → AllByRecursion (λ y. y ≡ v → ⊥) (switches g w ss)
   shorter_misses v ts q c w [] r b l = (λ e. let z : length {A = Step} [] ≡ length ts = ap length (one_climb v [] r ts q (subst (λ x. Climb g up x [] r) e b) c).0 in omega arith, tt)
   shorter_misses v ts q c w (s ∷ ss) r b l = (λ e. let z : length (s ∷ ss) ≡ length ts = ap length (one_climb v (s ∷ ss) r ts q (subst (λ x. Climb g up x (s ∷ ss) r) e b) c).0 in omega arith, shorter_misses v ts q c (end g s) ss r b.1 (omega arith))
 
   -- a climb to another root than v's does not pass v
-  pub other_misses : (v : ℕ) (ts : List Step) (q : ℕ) → Climb g up v ts q → (w : ℕ) (ss : List Step) (r : ℕ) → Climb g up w ss r → (r ≡ q → ⊥) → All (λ y. y ≡ v → ⊥) (switches g w ss)
+  pub other_misses : (v : ℕ) (ts : List Step) (q : ℕ) → Climb g up v ts q → (w : ℕ) (ss : List Step) (r : ℕ) → Climb g up w ss r → (r ≡ q → ⊥) → AllByRecursion (λ y. y ≡ v → ⊥) (switches g w ss)
   other_misses v ts q c w [] r b n = (λ e. n (one_climb v [] r ts q (subst (λ x. Climb g up x [] r) e b) c).1, tt)
   other_misses v ts q c w (s ∷ ss) r b n = (λ e. n (one_climb v (s ∷ ss) r ts q (subst (λ x. Climb g up x (s ∷ ss) r) e b) c).1, other_misses v ts q c (end g s) ss r b.1 n)
 

@@ -1,6 +1,6 @@
 use Rattle.std.proofs.Common.{◌≡◌, ℕ, zero, suc, ◌-◌, ◌<◌, ◌⊎◌, List, [], ◌∷◌, ◌++◌, sym, refl, ap, ◌∙◌, subst, inl, inr, arith}
 use native.Mathlib.Decide.{ℕ_discrete}
-use Rattle.std.specs.List.{AllByRecursion as All}
+use Rattle.std.specs.List.{AllByRecursion}
 use Rattle.network.specs.Graph.{Graph, place, start, end, Walk, Connected, Upto, Before, Joining, switches, Distinct, Path}
 use Rattle.network.specs.declared.Step.{Step}
 use Rattle.network.specs.declared.Step.TheVariants.{Forward, Backward}
@@ -119,15 +119,15 @@ module _ (g : Graph) where
   unique_once (suc k) i j ss ts v w o p = cuts k i j (unique_once k) ss ts o p (cut k i ss j v o) (cut k i ts j w p)
 
   -- no switch twice, so no link twice
-  meets : (A : ℕ → Type 0) (x : ℕ) (t : Step) (i : ℕ) (ss : List Step) (j : ℕ) → Walk g A i ss j → (start g t ≡ x) → All (λ y. y ≡ x → ⊥) (switches g i ss) → Lacks (place t) ss
+  meets : (A : ℕ → Type 0) (x : ℕ) (t : Step) (i : ℕ) (ss : List Step) (j : ℕ) → Walk g A i ss j → (start g t ≡ x) → AllByRecursion (λ y. y ≡ x → ⊥) (switches g i ss) → Lacks (place t) ss
   meets A x t i [] j w e h = tt
   meets A x t i (s ∷ ss) j (f, a, w) e (n, h) = (apart t s e f n h, meets A x t (end g s) ss j w e h)
     where
-      head : (m : ℕ) (rs : List Step) → All (λ y. y ≡ x → ⊥) (switches g m rs) → m ≡ x → ⊥
+      head : (m : ℕ) (rs : List Step) → AllByRecursion (λ y. y ≡ x → ⊥) (switches g m rs) → m ≡ x → ⊥
       head m [] (q, z) = q
       head m (r ∷ rs) (q, z) = q
 
-      apart : (t s : Step) → (start g t ≡ x) → (start g s ≡ i) → (i ≡ x → ⊥) → All (λ y. y ≡ x → ⊥) (switches g (end g s) ss) → place s ≡ place t → ⊥
+      apart : (t s : Step) → (start g t ≡ x) → (start g s ≡ i) → (i ≡ x → ⊥) → AllByRecursion (λ y. y ≡ x → ⊥) (switches g (end g s) ss) → place s ≡ place t → ⊥
       apart (Forward p) (Forward q) e f n h r = n (sym f ∙ ap g.from r ∙ e)
       apart (Forward p) (Backward q) e f n h r = head (g.from q) ss h (ap g.from r ∙ e)
       apart (Backward p) (Forward q) e f n h r = head (g.to q) ss h (ap g.to r ∙ e)

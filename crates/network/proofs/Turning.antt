@@ -1,7 +1,7 @@
 -- The way up from i turned round, a pointer at a time, so that i is the root of its tree.
 use Rattle.std.proofs.Common.{◌≡◌, ℕ, List, [], ◌∷◌, Some, None, Option, sym, refl, ap, ◌∙◌, subst, inl, inr, arith}
 use native.Mathlib.Decide.{ℕ_discrete}
-use Rattle.std.specs.List.{AllByRecursion as All}
+use Rattle.std.specs.List.{AllByRecursion}
 use Rattle.network.specs.Graph.{reverse, Graph, place, start, end, Joining, switches}
 use Rattle.network.specs.declared.Step.{Step}
 use Rattle.network.specs.declared.Step.TheVariants.{Forward, Backward}
@@ -26,7 +26,7 @@ pub record Put (up up' : ℕ → Option Step) (x : ℕ) (o : Option Step) : Type
   pub elsewhere : (v : ℕ) → (v ≡ x → ⊥) → up' v ≡ up v
 
 module _ (g : Graph) (up up' : ℕ → Option Step) (x : ℕ) (o : Option Step) (put : Put up up' x o) where
-  pub kept : (v : ℕ) (ss : List Step) (r : ℕ) → Climb g up v ss r → All (λ y. y ≡ x → ⊥) (switches g v ss) → Climb g up' v ss r
+  pub kept : (v : ℕ) (ss : List Step) (r : ℕ) → Climb g up v ss r → AllByRecursion (λ y. y ≡ x → ⊥) (switches g v ss) → Climb g up' v ss r
   kept v [] r (a, b) (n, h) = (a, put.elsewhere v n ∙ b)
   kept v (s ∷ ss) r (a, b) (n, h) = (put.elsewhere v n ∙ a, kept (end g s) ss r b h)
 

@@ -1,6 +1,6 @@
 -- Switches joined by links: walks, what is connected, joining links, paths.
 use Rattle.std.specs.Prelude.{◌≡◌, ℕ, ◌<◌, ◌≤◌, List, [], ◌∷◌, ◌≢◌}
-use Rattle.std.specs.List.{AllByRecursion as All}
+use Rattle.std.specs.List.{AllByRecursion}
 use Rattle.network.specs.declared.Step.{Step}
 use Rattle.network.specs.declared.Step.TheVariants.{Forward, Backward}
 
@@ -47,7 +47,7 @@ switches g i (s ∷ ss) = i ∷ switches g (end g s) ss
 
 abbrev pub Distinct : List ℕ → Type 0
 Distinct [] = Unit {0}
-Distinct (x ∷ xs) = All (λ y. y ≢ x) xs × Distinct xs
+Distinct (x ∷ xs) = AllByRecursion (λ y. y ≢ x) xs × Distinct xs
 
 -- a walk with no switch twice
 abbrev pub Path : Graph → (ℕ → Type 0) → ℕ → List Step → ℕ → Type 0

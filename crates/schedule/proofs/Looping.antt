@@ -1,6 +1,6 @@
 -- Links followed back round a circle are a loop below zero, which no offsets allow.
 use Rattle.std.proofs.Common.{◌≡◌, ℕ, zero, suc, ◌+◌, ◌<◌, ◌≤◌, ◌⊎◌, List, [], ◌∷◌, length, sym, refl, ap, ◌∙◌, subst, inl, inr, suc-add, zero-add, arith}
-use Rattle.std.specs.List.{AllByRecursion as All}
+use Rattle.std.specs.List.{AllByRecursion}
 use Rattle.std.proofs.lemmas.Bool.{both_ways}
 use Rattle.kind.specs.Group.{Quantities}
 use Rattle.kind.specs.Order.{Ordered}
@@ -117,7 +117,7 @@ module _ {L T : Type 0} (M : Meaning L T) (links : List (Link M.quantities.Q)) (
         }
 
     -- the steps end at the switches that are passed on the way back
-    avoids : (u y t : ℕ) → ((i : ℕ) → i < t → Up (at_back u i)) → ((i : ℕ) → i < t → at_back u i ≡ y → ⊥) → All (λ x. x ≡ y → ⊥) (ends g (trail g s.pred u t))
+    avoids : (u y t : ℕ) → ((i : ℕ) → i < t → Up (at_back u i)) → ((i : ℕ) → i < t → at_back u i ≡ y → ⊥) → AllByRecursion (λ x. x ≡ y → ⊥) (ends g (trail g s.pred u t))
     avoids u y zero a d = tt
     avoids u y (suc t) a d = (λ e. d t (omega arith) (sym (up_led (at_back u t) (a t (omega arith))).ends ∙ e), avoids u y t (λ i l. a i (omega arith)) (λ i l. d i (omega arith)))
 

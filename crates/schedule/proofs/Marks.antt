@@ -1,6 +1,6 @@
 -- Going back with a mark on each switch, and writing the steps of the circle that it comes to.
 use Rattle.std.proofs.Common.{◌≡◌, ℕ, zero, suc, ◌+◌, ◌-◌, ◌<◌, ◌≤◌, List, [], ◌∷◌, map, length, get_or, take, drop, set, sym, refl, ap, ◌∙◌, subst, inl, inr, add-one, arith}
-use Rattle.std.specs.List.{AllByRecursion as All}
+use Rattle.std.specs.List.{AllByRecursion}
 use Rattle.std.proofs.lemmas.List.{get_or-set_same, get_or-set_other, drop-set, drop-set-lt}
 use Rattle.std.proofs.lemmas.Bool.{cases_eq}
 use Rattle.network.specs.declared.Step.TheVariants.{Forward}
@@ -20,7 +20,7 @@ listed f zero = []
 listed f (suc m) = f m ∷ listed f m
 
 module _ (f : ℕ → ℕ) where
-  all_listed : (P : ℕ → Type 0) (m : ℕ) → ((i : ℕ) → i < m → P (f i)) → All P (listed f m)
+  all_listed : (P : ℕ → Type 0) (m : ℕ) → ((i : ℕ) → i < m → P (f i)) → AllByRecursion P (listed f m)
   unfolding listed
   all_listed P zero h = tt
   all_listed P (suc m) h = (h m (omega arith), all_listed P m (λ i l. h i (omega arith)))

@@ -1,6 +1,6 @@
 -- Climbing and turning in a forest whose links lie among n switches.
 use Rattle.std.proofs.Common.{◌≡◌, ℕ, zero, suc, ◌-◌, ◌<◌, ◌≤◌, List, [], ◌∷◌, length, get_or, set, Some, None, Option, sym, refl, ap, ◌∙◌, subst, arith, get_or-set_other, get_or-set_same}
-use Rattle.std.specs.List.{AllByRecursion as All}
+use Rattle.std.specs.List.{AllByRecursion}
 use Rattle.network.specs.declared.Step.{Step}
 use Rattle.network.specs.declared.Step.TheVariants.{Forward, Backward}
 use Rattle.network.specs.Graph.{Graph, place, start, end, reverse, Connected, Upto, Joining, switches}
@@ -32,7 +32,7 @@ length-switches g v (s ∷ ss) = ap suc (length-switches g (end g s) ss)
 
 module _ (g : Graph) (k n : ℕ) (z : Wired g k n) where
   module _ (up : ℕ → Option Step) (points : (v : ℕ) (s : Step) → up v ≡ Some s → (start g s ≡ v) × Joining g k (place s)) where
-    low : (v : ℕ) (ss : List Step) (r : ℕ) → Climb g up v ss r → On n v → All (λ y. y < suc n) (switches g v ss) × All (λ y. y ≡ 0 → ⊥) (switches g v ss)
+    low : (v : ℕ) (ss : List Step) (r : ℕ) → Climb g up v ss r → On n v → AllByRecursion (λ y. y < suc n) (switches g v ss) × AllByRecursion (λ y. y ≡ 0 → ⊥) (switches g v ss)
     low v [] r c o = ((omega arith, tt), (λ e. omega arith, tt))
     low v (s ∷ ss) r (e, c) o = let h = low (end g s) ss r c (end_on g k n z s (points v s e).1) in ((omega arith, h.0), (λ e. omega arith, h.1))
 

@@ -1,6 +1,6 @@
 -- What holds of links that are written out.
 use Rattle.std.proofs.Common.{◌≡◌, ℕ, zero, suc, ◌*◌, ◌<◌, ◌≤◌, List, [], ◌∷◌, length, get_or, sym, refl, subst, arith}
-use Rattle.std.specs.List.{AllByRecursion as All}
+use Rattle.std.specs.List.{AllByRecursion}
 use Rattle.kind.specs.Meaning.{Meaning}
 use Rattle.network.specs.declared.Step.{Step}
 use Rattle.network.specs.declared.Step.TheVariants.{Forward, Backward}
@@ -26,7 +26,7 @@ module _ {L T : Type 0} (M : Meaning L T) where
   abbrev Q : Type 0
   Q = M.quantities.Q
 
-  each : (P : Link Q → Type 0) (links : List (Link Q)) → All P links → (p : ℕ) → Positions M.quantities links p → P (at M.quantities links p)
+  each : (P : Link Q → Type 0) (links : List (Link Q)) → AllByRecursion P links → (p : ℕ) → Positions M.quantities links p → P (at M.quantities links p)
   each P links h zero u = absurd (omega arith)
   each P [] h (suc p) u = absurd (omega arith)
   each P (l ∷ links) h (suc zero) u = h.0
@@ -36,14 +36,14 @@ module _ {L T : Type 0} (M : Meaning L T) where
   abbrev listed : List Q → ℕ → Q
   listed offsets v = get_or (M.quantities.zero ∷ offsets) v M.quantities.zero
 
-  pub fits_by : (offsets : List Q) (links : List (Link Q)) → All (Carried M.quantities (listed offsets)) links → Fits M.quantities links
+  pub fits_by : (offsets : List Q) (links : List (Link Q)) → AllByRecursion (Carried M.quantities (listed offsets)) links → Fits M.quantities links
   fits_by offsets links h = (listed offsets, each (Carried M.quantities (listed offsets)) links h)
 
   abbrev Other : Link Q → Link Q → Type 0
   Other l k = (k.from ≡ l.from) × (k.to ≡ l.to) → ⊥
 
   -- on up to three switches, with room for one link more
-  pub is_ready : (n room : ℕ) (links : List (Link Q)) (l : Link Q) → n ≤ 3 → 2 * n ≤ room → length links < 3 → Inside n (l.from ∷ l.to ∷ []) → (l.from ≡ l.to → ⊥) → All (Other l) links → Ready M (holds n links) l (lent room)
+  pub is_ready : (n room : ℕ) (links : List (Link Q)) (l : Link Q) → n ≤ 3 → 2 * n ≤ room → length links < 3 → Inside n (l.from ∷ l.to ∷ []) → (l.from ≡ l.to → ⊥) → AllByRecursion (Other l) links → Ready M (holds n links) l (lent room)
   is_ready n room links l few enough short inside apart new = record {
     unissued = refl;
     inside = inside;
