@@ -2,7 +2,9 @@
 """Respells the repository's own definitions and lemmas: words in snake case.
 
 Run once, at the top, after the port to rattle-kit-13f. A dash stays only where it joins the names
-of two definitions, as in length-hex. Functions of src/, strings and generated names are left alone.
+of two definitions, as in length-hex. It goes by text, over the whole of each .rt and .antt file: a word
+turns wherever it stands. Functions of src/ and the text of strings have no such word, and generated
+names are left alone.
 """
 import glob
 import os

@@ -3,7 +3,6 @@
 mod places;
 mod ticks;
 
-use kind::Kind;
 pub use places::{PlaceLatency, Places};
 pub use ticks::{TickLatency, Ticks};
 
