@@ -7,7 +7,7 @@ ghost use Rattle.kind.specs.Meaning.{Meaning};
 use text::Text;
 
 // The number is no latency of the kind: refusal 1.
-#[derive(Clone, Copy)]
+#[derive(Clone, Copy, Debug, PartialEq, Eq)]
 pub struct NoLatency;
 
 // A kind of latency: what links are measured in. Its totals are sums of latencies; a total within reach r is one

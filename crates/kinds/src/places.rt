@@ -11,7 +11,7 @@ const LAST: u32 = CYCLE - 1;
 pub struct Places;
 
 // Whatever it stores, it means a place: the last one for a number past it.
-#[derive(Clone, Copy)]
+#[derive(Clone, Copy, Debug, PartialEq, Eq)]
 pub struct PlaceLatency {
     place: u32,
 }

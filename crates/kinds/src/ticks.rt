@@ -9,7 +9,7 @@ const LIMIT: i32 = 100_000_000;
 pub struct Ticks;
 
 // Whatever it stores, it means the nearest number from -LIMIT to LIMIT.
-#[derive(Clone, Copy)]
+#[derive(Clone, Copy, Debug, PartialEq, Eq)]
 pub struct TickLatency {
     number: i32,
 }
@@ -24,10 +24,11 @@ impl Kind for Ticks {
     ghost meaning = { tick_meaning };
 
     fn latency(number: i32) -> Result<TickLatency, NoLatency> {
-        if number < -LIMIT || LIMIT < number {
-            return Err(NoLatency);
+        if (-LIMIT..=LIMIT).contains(&number) {
+            Ok(TickLatency { number })
+        } else {
+            Err(NoLatency)
         }
-        Ok(TickLatency { number })
     }
 
     fn zero() -> i64 {

@@ -1,5 +1,5 @@
 -- Offsets read off a forest, as differences to its roots.
-use Rattle.std.proofs.Common.{◌≡◌, ℕ, ◌-◌, ◌*◌, ◌<◌, ◌≤◌, List, [], map, length, get_or, None, sym, refl, ap, ◌∙◌, subst, arith}
+use Rattle.std.proofs.Common.{◌≡◌, ℕ, ◌-◌, ◌*◌, ◌<◌, ◌≤◌, List, [], map, length, get_or, None, Ok, sym, refl, ap, ◌∙◌, subst, arith}
 use Rattle.std.proofs.lemmas.List.{get_or-map}
 use Rattle.kind.specs.Group.{Quantities}
 use Rattle.kind.specs.Meaning.{Meaning}
@@ -10,7 +10,6 @@ use Rattle.network.proofs.Sums.{sums, minus_zero}
 use Rattle.network.proofs.Climb.{one_climb}
 use Rattle.network.proofs.Lists.{theory}
 use Rattle.search.specs.declared.link.Link.{Link as Record}
-use Rattle.search.specs.declared.known.Between.TheVariants.{Known}
 use Rattle.search.specs.Parents.{parents}
 use Rattle.search.specs.Records.{link_of, graph_of, On}
 use Rattle.search.specs.Joined.{label, Labelled}
@@ -37,7 +36,7 @@ module _ {L T : Type 0} (M : Meaning L T) (links : List (Record L)) (n : ℕ) (u
       read v o t ∙ (p.3 t).0 ∙ ap (λ ss. M.quantities.minus (tally M.quantities (gap M links) ss)) none ∙ minus_zero M.quantities
 
   -- what stands at j is the difference to the root i
-  pub told : Wired (graph_of links) (length links) n → Forest (graph_of links) (length links) (parents up) → Carries M.quantities (offset M row) (map (link_of M) links) → (i j : ℕ) → On n i → On n j → parents up i ≡ None → Linked M.quantities (map (link_of M) links) i j → (t : T) → t ≡ get_or row (j - 1) t → Tells M links n i j (Known t)
+  pub told : Wired (graph_of links) (length links) n → Forest (graph_of links) (length links) (parents up) → Carries M.quantities (offset M row) (map (link_of M) links) → (i j : ℕ) → On n i → On n j → parents up i ≡ None → Linked M.quantities (map (link_of M) links) i j → (t : T) → t ≡ get_or row (j - 1) t → Tells M links n i j (Ok t)
   told z f h i j oi oj e l t is =
       let p = placed j oj in
       let short : length p.0 < n = climb_short (graph_of links) (length links) n z (parents up) f.points j p.0 p.1 p.2 oj in

@@ -12,3 +12,4 @@ pub mod Carrying
 pub mod Verdicts
 pub mod Rooting
 pub mod Differences
+pub mod Filled

@@ -9,12 +9,11 @@ use Rattle.network.specs.Offsets.{tally}
 use Rattle.network.proofs.Climb.{one_step}
 use Rattle.network.proofs.Sums.{minus_zero}
 use Rattle.search.specs.declared.link.Link.{Link as Record}
-use Rattle.network.specs.Words.{decode}
 use Rattle.search.specs.Parents.{parents}
 use Rattle.search.specs.Records.{graph_of, On}
 use Rattle.search.specs.Settled.{worth, gap, Placed, Settled, Kept}
 use Rattle.search.proofs.Wiring.{Wired}
-use Rattle.search.proofs.Climbs.{ups_at, climb_short}
+use Rattle.search.proofs.Climbs.{climb_short}
 use Rattle.search.proofs.Gaps.{onto}
 
 module _ {L T : Type 0} (M : Meaning L T) (links : List (Record L)) (n : ℕ) (up marks : List ℕ) (row : List T) (big : (n ≤ length marks) × (n ≤ length row)) (S : Settled M links n up marks row) where
@@ -40,9 +39,9 @@ module _ {L T : Type 0} (M : Meaning L T) (links : List (Record L)) (n : ℕ) (u
   grounded w o e x z h = settled_more w o x [] w (refl, e) (z ∙ sym (minus_zero M.quantities)) h
 
   module _ (k : ℕ) (small : n ≤ 1024) (z : Wired (graph_of links) k n) (f : Forest (graph_of links) k (parents up)) (w y : ℕ) (ow : On n w) (oy : On n y) (s : Step) (above : (s : Step) × (parents up w ≡ Some s) × (end (graph_of links) s ≡ y))
-      (is : Some s ≡ decode (get_or up (w - 1) 0)) (known : get_or marks (y - 1) 0 ≡ 0 → ⊥) where
+      (is : Some s ≡ parents up w) (known : get_or marks (y - 1) 0 ≡ 0 → ⊥) where
     step_is : above.0 ≡ s
-    step_is = one_step (parents up w) above.0 s above.1 (ups_at up w ow.0 ∙ sym is)
+    step_is = one_step (parents up w) above.0 s above.1 (sym is)
 
     pub step_low : (1 ≤ place s) × (place s ≤ k)
     step_low = let j = (f.points w above.0 above.1).1 in let q = ap place step_is in (omega (arith, j.0, q), omega (arith, j.1, q))
@@ -54,7 +53,7 @@ module _ {L T : Type 0} (M : Meaning L T) (links : List (Record L)) (n : ℕ) (u
         let short : length p.0 < n = climb_short (graph_of links) k n z (parents up) f.points y p.0 p.1 p.2 oy in
         let b = h (2 * length p.0) (p.3 d).1 (omega (arith, short, small)) in
         let size : 2 * length p.0 + 2 ≡ 2 * length (s ∷ p.0) = omega arith in
-        settled_more w ow x (s ∷ p.0) p.1 (ups_at up w ow.0 ∙ sym is, subst (λ q. Climb (graph_of links) (parents up) q p.0 p.1) (sym above.2 ∙ ap (end (graph_of links)) step_is) p.2)
+        settled_more w ow x (s ∷ p.0) p.1 (sym is, subst (λ q. Climb (graph_of links) (parents up) q p.0 p.1) (sym above.2 ∙ ap (end (graph_of links)) step_is) p.2)
         (b.0 ∙ onto M.quantities (gap M links) s p.0 (M.total (get_or row (y - 1) d)) (p.3 d).0)
         (subst (λ i. M.within i x) size b.1)
 

@@ -1,17 +1,17 @@
 -- The way up from a switch, a step at a time.
-use Rattle.std.proofs.Common.{◌≡◌, ℕ, suc, ◌+◌, ◌-◌, ◌<◌, ◌≤◌, List, [], ◌∷◌, ◌++◌, map, length, get_or, take, drop, set, Some, None, Option, sym, refl, ap, ◌∙◌, subst, append-nil, add-one, arith, length-append, drop-drop, take-suc-set, drop-set-lt}
+use Rattle.std.proofs.Common.{◌≡◌, ℕ, suc, ◌+◌, ◌<◌, ◌≤◌, List, [], ◌∷◌, ◌++◌, map, length, take, drop, set, Some, None, Option, sym, refl, ap, ◌∙◌, subst, append-nil, add-one, arith, length-append, drop-drop, take-suc-set, drop-set-lt}
 use lib.Seq.{append_snoc}
 use Rattle.std.proofs.lemmas.List.{map-append}
 use Rattle.network.specs.declared.Step.{Step}
 use Rattle.network.specs.Graph.{Graph, place, end, Joining}
 use Rattle.network.specs.Climb.{Climb, Forest}
 use Rattle.network.specs.Climb.{ups}
-use Rattle.network.specs.Words.{word, decode}
+use Rattle.network.specs.Words.{word}
 use Rattle.search.specs.Parents.{parents}
 use Rattle.search.specs.Records.{On}
 use Rattle.search.specs.Written.{Written}
 use Rattle.search.proofs.Wiring.{Wired}
-use Rattle.search.proofs.Climbs.{ups_at, climb_short, up_on, up_less}
+use Rattle.search.proofs.Climbs.{climb_short, up_on, up_less}
 
 pub nothing : (row : List ℕ) → Written row row 0 []
 nothing row = record { count = refl; front = refl; rest = refl }
@@ -28,9 +28,9 @@ more row row' m w xs s h l e =
 abbrev pub Leads : Graph → (ℕ → Option Step) → ℕ → List Step → ℕ → Type 0
 Leads g up v xs x = (r : ℕ) (ss : List Step) → Climb g up x ss r → Climb g up v (xs ++ ss) r
 
-module _ (g : Graph) (k n : ℕ) (z : Wired g k n) (row : List ℕ) (f : Forest g k (parents row)) (x : ℕ) (o : On n x) (s : Step) (e : Some s ≡ decode (get_or row (x - 1) 0)) where
+module _ (g : Graph) (k n : ℕ) (z : Wired g k n) (row : List ℕ) (f : Forest g k (parents row)) (x : ℕ) (o : On n x) (s : Step) (e : Some s ≡ parents row x) where
   here : parents row x ≡ Some s
-  here = ups_at row x o.0 ∙ sym e
+  here = sym e
 
   pub joins : Joining g k (place s)
   joins = (f.points x s here).1
@@ -51,5 +51,5 @@ module _ (g : Graph) (k n : ℕ) (z : Wired g k n) (row : List ℕ) (f : Forest 
       let b = climb_short g k n z (parents row) f.points v (xs ++ (s ∷ c.0)) c.1 (h c.1 (s ∷ c.0) (here, c.2)) l in
       omega (arith, length-append xs (s ∷ c.0), b)
 
-pub at_root : (g : Graph) (row : List ℕ) (v x : ℕ) (xs : List Step) → 1 ≤ x → None ≡ decode (get_or row (x - 1) 0) → Leads g (parents row) v xs x → Climb g (parents row) v xs x
-at_root g row v x xs o e h = subst (λ ts. Climb g (parents row) v ts x) (append-nil xs) (h x [] (refl, ups_at row x o ∙ sym e))
+pub at_root : (g : Graph) (row : List ℕ) (v x : ℕ) (xs : List Step) → 1 ≤ x → None ≡ parents row x → Leads g (parents row) v xs x → Climb g (parents row) v xs x
+at_root g row v x xs o e h = subst (λ ts. Climb g (parents row) v ts x) (append-nil xs) (h x [] (refl, sym e))

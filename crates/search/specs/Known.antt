@@ -1,11 +1,11 @@
 -- What links tell of offsets: between two switches, and of all from the lowest switch of every group.
-use Rattle.std.specs.Prelude.{◌≡◌, ℕ, ◌-◌, ◌*◌, ◌≤◌, List, map, slice_index_or}
+use Rattle.std.specs.Prelude.{◌≡◌, ℕ, ◌-◌, ◌*◌, ◌≤◌, List, map, Ok, Err, Result, slice_index_or}
 use Rattle.kind.specs.Meaning.{Meaning}
 use Rattle.network.specs.Offsets.{Carries, Fits}
 use Rattle.network.specs.Theorems.{Linked}
 use Rattle.search.specs.declared.link.Link.{Link as Record}
-use Rattle.search.specs.declared.known.Between.{Between}
-use Rattle.search.specs.declared.known.Between.TheVariants.{Torn, Apart, Known}
+use Rattle.search.specs.declared.unknown.Unknown.{Unknown}
+use Rattle.search.specs.declared.unknown.Unknown.TheVariants.{Torn, Apart}
 use Rattle.search.specs.Records.{link_of, On}
 use Rattle.search.specs.Settled.{offset}
 
@@ -15,10 +15,10 @@ module _ {L T : Type 0} (M : Meaning L T) (links : List (Record L)) where
   Differ i j q = (c : ℕ → M.quantities.Q) → Carries M.quantities c (map (link_of M) links) → M.quantities.plus (c j) (M.quantities.minus (c i)) ≡ q
 
   -- no offsets carry the links; or some do, and no walk leads from i to j; or one does, and j has t more than i in all of them. Of n switches, a way has fewer links than n.
-  abbrev pub Tells : ℕ → ℕ → ℕ → Between T → Type 0
-  Tells n i j Torn = Fits M.quantities (map (link_of M) links) → ⊥
-  Tells n i j Apart = Fits M.quantities (map (link_of M) links) × (Linked M.quantities (map (link_of M) links) i j → ⊥)
-  Tells n i j (Known t) = Fits M.quantities (map (link_of M) links) × Linked M.quantities (map (link_of M) links) i j × Differ i j (M.total t) × M.within (2 * (n - 1)) t
+  abbrev pub Tells : ℕ → ℕ → ℕ → Result T Unknown → Type 0
+  Tells n i j (Err Torn) = Fits M.quantities (map (link_of M) links) → ⊥
+  Tells n i j (Err Apart) = Fits M.quantities (map (link_of M) links) × (Linked M.quantities (map (link_of M) links) i j → ⊥)
+  Tells n i j (Ok t) = Fits M.quantities (map (link_of M) links) × Linked M.quantities (map (link_of M) links) i j × Differ i j (M.total t) × M.within (2 * (n - 1)) t
 
   -- the row's offsets carry the links, and are zero at the lowest switch of every group
   abbrev pub Grounded : ℕ → List T → Type 0

@@ -6,18 +6,19 @@ ghost use Rattle.search.specs.Records.{link_of, graph_of, On, Sound};
 ghost use Rattle.search.specs.Settled.{Placed, offset, Reached};
 
 use crate::link::Link;
+use crate::net::Network;
 use crate::offsets::settle_all;
 use kind::Kind;
 
 // Whether the offsets carry the link.
-pub(crate) fn carried<K: Kind>(link: Link<K::Latency>, row: &[K::Total], n: usize) -> bool
+pub(crate) fn carried<K: Kind>(link: &Link<K::Latency>, row: &[K::Total], n: usize) -> bool
     requires small { n ≤ 1024 }
     requires size { n ≤ length row.now }
-    requires from { On n link.from }
-    requires to { On n link.to }
+    requires from { On n link.now.from }
+    requires to { On n link.now.to }
     requires near { Reached K.Kind.meaning n row.now }
-    ensures yes { result ≡ true → Carried K.Kind.meaning.quantities (offset K.Kind.meaning row.now) (link_of K.Kind.meaning link) }
-    ensures no { Carried K.Kind.meaning.quantities (offset K.Kind.meaning row.now) (link_of K.Kind.meaning link) → result ≡ true }
+    ensures yes { result ≡ true → Carried K.Kind.meaning.quantities (offset K.Kind.meaning row.now) (link_of K.Kind.meaning link.now) }
+    ensures no { Carried K.Kind.meaning.quantities (offset K.Kind.meaning row.now) (link_of K.Kind.meaning link.now) → result ≡ true }
 {
     let a = K::sum(&K::of(&link.wanted), &row[link.from as usize - 1]);
     let b = K::sum(&K::of(&link.measured), &row[link.to as usize - 1]);
@@ -25,17 +26,14 @@ pub(crate) fn carried<K: Kind>(link: Link<K::Latency>, row: &[K::Total], n: usiz
 }
 
 // Whether the offsets carry every link.
-pub(crate) fn all_carried<K: Kind>(links: &[Link<K::Latency>], row: &[K::Total], n: usize) -> bool
-    requires small { n ≤ 1024 }
-    requires size { n ≤ length row.now }
-    requires sound { Sound n links.now }
-    requires near { Reached K.Kind.meaning n row.now }
-    ensures yes { result ≡ true → Carries K.Kind.meaning.quantities (offset K.Kind.meaning row.now) (map (link_of K.Kind.meaning) links.now) }
-    ensures no { Carries K.Kind.meaning.quantities (offset K.Kind.meaning row.now) (map (link_of K.Kind.meaning) links.now) → result ≡ true }
+pub(crate) fn all_carried<K: Kind>(net: &Network<'_, K::Latency>, row: &[K::Total]) -> bool
+    requires size { net.now.n ≤ length row.now }
+    requires near { Reached K.Kind.meaning net.now.n row.now }
+    ensures yes { result ≡ true → Carries K.Kind.meaning.quantities (offset K.Kind.meaning row.now) (map (link_of K.Kind.meaning) net.now.links.now) }
+    ensures no { Carries K.Kind.meaning.quantities (offset K.Kind.meaning row.now) (map (link_of K.Kind.meaning) net.now.links.now) → result ≡ true }
 {
-    for k in 0..links.len() {
-        let link = links[k];
-        if !carried::<K>(link, row, n) {
+    for link in net.links {
+        if !carried::<K>(link, row, net.n) {
             return false;
         }
     }
@@ -44,21 +42,20 @@ pub(crate) fn all_carried<K: Kind>(links: &[Link<K::Latency>], row: &[K::Total],
 
 // The offset of every switch, from its root: whether they carry every link.
 pub(crate) fn carry<K: Kind>(
-    links: &[Link<K::Latency>],
+    net: &Network<'_, K::Latency>,
     up: &[u32],
     stack: &mut [u32],
     marks: &mut [u32],
     row: &mut [K::Total],
 ) -> bool
-    requires forest { Forest (graph_of links.now) (length links.now) (parents up.now) }
-    requires sound { Sound (length up.now) links.now }
-    requires small { length up.now ≤ 1024 }
-    requires sizes { (length up.now ≤ length marks.old) × (length up.now ≤ length row.old) × (length up.now ≤ length stack.old) }
-    ensures placed { (v : ℕ) → On (length up.now) v → Placed K.Kind.meaning links.now up.now row.new v }
-    ensures near { Reached K.Kind.meaning (length up.now) row.new }
-    ensures yes { result ≡ true → Carries K.Kind.meaning.quantities (offset K.Kind.meaning row.new) (map (link_of K.Kind.meaning) links.now) }
-    ensures no { Fits K.Kind.meaning.quantities (map (link_of K.Kind.meaning) links.now) → result ≡ true }
+    requires forest { Forest (graph_of net.now.links.now) (length net.now.links.now) (parents up.now) }
+    requires size { length up.now ≡ net.now.n }
+    requires sizes { (net.now.n ≤ length marks.old) × (net.now.n ≤ length row.old) × (net.now.n ≤ length stack.old) }
+    ensures placed { (v : ℕ) → On net.now.n v → Placed K.Kind.meaning net.now.links.now up.now row.new v }
+    ensures near { Reached K.Kind.meaning net.now.n row.new }
+    ensures yes { result ≡ true → Carries K.Kind.meaning.quantities (offset K.Kind.meaning row.new) (map (link_of K.Kind.meaning) net.now.links.now) }
+    ensures no { Fits K.Kind.meaning.quantities (map (link_of K.Kind.meaning) net.now.links.now) → result ≡ true }
 {
-    settle_all::<K>(up, links, links.len(), stack, marks, row);
-    all_carried::<K>(links, row, up.len())
+    settle_all::<K>(net, up, stack, marks, row);
+    all_carried::<K>(net, row)
 }

@@ -4,46 +4,44 @@ ghost use Rattle.search.specs.Joined.{label, Joined};
 ghost use Rattle.search.specs.Grouped.{Rising, Leader, Found, under, Grouped};
 ghost use Rattle.network.specs.Climb.{Forest};
 ghost use Rattle.search.specs.Parents.{parents};
-ghost use Rattle.search.specs.Records.{graph_of, On, Sound};
+ghost use Rattle.search.specs.Records.{graph_of, On};
 
-use crate::link::Link;
-use crate::steps::{far_end, step_of, word_of};
+use crate::net::Network;
+use crate::steps::{far_end, step_up};
 use network::Step;
 
 // Makes switch i the root of its tree.
-pub(crate) fn reroot<L: Copy>(up: &mut [u32], links: &[Link<L>], count: usize, i: u32)
-    requires forest { Forest (graph_of links.now) count (parents up.old) }
-    requires sound { Sound (length up.old) links.now }
-    requires count { count ≤ length links.now }
-    requires few { count ≤ 8192 }
-    requires inside { On (length up.old) i }
-    ensures still { Forest (graph_of links.now) count (parents up.new) }
+pub(crate) fn reroot<L: Copy>(net: &Network<'_, L>, up: &mut [u32], count: usize, i: u32)
+    requires forest { Forest (graph_of net.now.links.now) count (parents up.old) }
+    requires size { length up.old ≡ net.now.n }
+    requires count { count ≤ length net.now.links.now }
+    requires inside { On net.now.n i }
+    ensures still { Forest (graph_of net.now.links.now) count (parents up.new) }
     ensures root { parents up.new i ≡ None }
-    ensures others { (v : ℕ) → (Connected (graph_of links.now) (Upto count) i v → ⊥) → parents up.new v ≡ parents up.old v }
+    ensures others { (v : ℕ) → (Connected (graph_of net.now.links.now) (Upto count) i v → ⊥) → parents up.new v ≡ parents up.old v }
 {
     let mut x = i;
     let mut hang: u32 = 0;
-    while let Some(s) = step_of(up[x as usize - 1]) {
+    while let Some(s) = step_up(up, x) {
         up[x as usize - 1] = hang;
-        hang = word_of(s.reversed());
-        x = far_end(s, links);
+        hang = s.reversed().word();
+        x = far_end(s, net);
     }
     up[x as usize - 1] = hang;
 }
 
 // Hangs the tree of the step's start, turned, under the step's end, which is in another tree.
-fn hang<L: Copy>(up: &mut [u32], links: &[Link<L>], k: usize, s: Step)
-    requires forest { Forest (graph_of links.now) k (parents up.old) }
-    requires sound { Sound (length up.old) links.now }
-    requires room { k < length links.now }
-    requires few { k < 8192 }
+fn hang<L: Copy>(net: &Network<'_, L>, up: &mut [u32], k: usize, s: Step)
+    requires forest { Forest (graph_of net.now.links.now) k (parents up.old) }
+    requires size { length up.old ≡ net.now.n }
+    requires room { k < length net.now.links.now }
     requires next { place s ≡ k + 1 }
-    requires apart { Connected (graph_of links.now) (Upto k) (start (graph_of links.now) s) (end (graph_of links.now) s) → ⊥ }
-    ensures { Forest (graph_of links.now) (k + 1) (parents up.new) }
+    requires apart { Connected (graph_of net.now.links.now) (Upto k) (start (graph_of net.now.links.now) s) (end (graph_of net.now.links.now) s) → ⊥ }
+    ensures { Forest (graph_of net.now.links.now) (k + 1) (parents up.new) }
 {
-    let i = far_end(s.reversed(), links);
-    reroot(up, links, k, i);
-    up[i as usize - 1] = word_of(s);
+    let i = far_end(s.reversed(), net);
+    reroot(net, up, k, i);
+    up[i as usize - 1] = s.word();
 }
 
 // The leader of v's group. The ranks only show that the pointers lead to an end.
@@ -79,22 +77,19 @@ fn unite(labels: &mut [u32], ranks: &mut [u32], a: u32, b: u32)
 
 // One more link: a joining link puts the group of the lower rank under the other, and hangs its tree there.
 fn join_next<L: Copy>(
+    net: &Network<'_, L>,
     labels: &mut [u32],
     ranks: &mut [u32],
     up: &mut [u32],
-    links: &[Link<L>],
     k: usize,
 )
-    requires grouped { Grouped (graph_of links.now) k (length labels.old) labels.old ranks.old up.old }
-    requires sound { Sound (length labels.old) links.now }
-    requires same { length labels.old ≡ length up.old }
-    requires size { length labels.old ≤ length ranks.old }
-    requires room { k < length links.now }
-    requires few { k < 8192 }
-    ensures { Grouped (graph_of links.now) (k + 1) (length labels.old) labels.new ranks.new up.new }
+    requires grouped { Grouped (graph_of net.now.links.now) k net.now.n labels.old ranks.old up.old }
+    requires sizes { (length labels.old ≡ net.now.n) × (length up.old ≡ net.now.n) × (net.now.n ≤ length ranks.old) }
+    requires room { k < length net.now.links.now }
+    ensures { Grouped (graph_of net.now.links.now) (k + 1) net.now.n labels.new ranks.new up.new }
 {
-    let i = far_end(Step::Backward(k + 1), links);
-    let j = far_end(Step::Forward(k + 1), links);
+    let i = far_end(Step::Backward(k + 1), net);
+    let j = far_end(Step::Forward(k + 1), net);
     let a = root(labels, ranks, i);
     let b = root(labels, ranks, j);
     if a == b {
@@ -102,10 +97,10 @@ fn join_next<L: Copy>(
     }
     if ranks[a as usize - 1] < ranks[b as usize - 1] {
         unite(labels, ranks, b, a);
-        hang(up, links, k, Step::Forward(k + 1));
+        hang(net, up, k, Step::Forward(k + 1));
     } else {
         unite(labels, ranks, a, b);
-        hang(up, links, k, Step::Backward(k + 1));
+        hang(net, up, k, Step::Backward(k + 1));
     }
 }
 
@@ -137,21 +132,17 @@ fn flatten(labels: &mut [u32], ranks: &[u32])
 
 // The labels and the forest of all the links; the ranks are for its own use.
 pub(crate) fn join<L: Copy>(
+    net: &Network<'_, L>,
     labels: &mut [u32],
     ranks: &mut [u32],
     up: &mut [u32],
-    links: &[Link<L>],
 )
-    requires sound { Sound (length up.old) links.now }
-    requires same { length labels.old ≡ length up.old }
-    requires size { length labels.old ≤ length ranks.old }
-    requires small { length up.old ≤ 1024 }
-    requires few { length links.now ≤ 8192 }
-    ensures { Joined (graph_of links.now) (length links.now) (length up.old) labels.new up.new }
+    requires sizes { (length labels.old ≡ net.now.n) × (length up.old ≡ net.now.n) × (net.now.n ≤ length ranks.old) }
+    ensures { Joined (graph_of net.now.links.now) (length net.now.links.now) net.now.n labels.new up.new }
 {
     scatter(labels, ranks, up);
-    for k in 0..links.len() {
-        join_next(labels, ranks, up, links, k);
+    for k in 0..net.links.len() {
+        join_next(net, labels, ranks, up, k);
     }
     flatten(labels, ranks);
 }

@@ -1,169 +1,97 @@
-ghost use Rattle.std.specs.Prelude.{◌≡◌, ℕ, ◌*◌, ◌≤◌, true, false, List, map, length, take, drop};
+ghost use Rattle.std.specs.Prelude.{◌≡◌, ◌*◌, ◌≤◌, length, take, drop, MatchResult, map};
 ghost use Rattle.network.specs.Offsets.{Fits};
-ghost use Rattle.search.specs.Records.{link_of, On, Sound};
+ghost use Rattle.search.specs.Records.{link_of, On};
 ghost use Rattle.search.specs.Known.{Tells, Grounded};
 
 use crate::carries::carry;
 use crate::forest::{join, reroot};
-use crate::link::Link;
 use crate::lowest::root_lowest;
+use crate::net::Network;
 use crate::row::get;
+use crate::rows::Rows;
+use crate::unknown::{Torn, Unknown};
 use kind::Kind;
-
-// What links tell of the offsets of two switches: torn where no offsets carry the links; apart where no walk leads from
-// one to the other, so that their difference is free; else known, the second's less the first's.
-#[derive(Clone, Copy)]
-pub enum Between<T> {
-    Torn,
-    Apart,
-    Known(T),
-}
 
 // With i at the root of its tree, the offsets of its group are the differences to it.
 fn difference<K: Kind>(
-    links: &[Link<K::Latency>],
+    net: &Network<'_, K::Latency>,
+    rows: &mut Rows<'_>,
+    offsets: &mut [K::Total],
     i: u32,
     j: u32,
-    labels: &mut [u32],
-    up: &mut [u32],
-    stack: &mut [u32],
-    marks: &mut [u32],
-    row: &mut [K::Total],
-) -> Between<K::Total>
-    requires sound { Sound (length up.old) links.now }
-    requires small { length up.old ≤ 1024 }
-    requires few { length links.now ≤ 8192 }
-    requires labels { length labels.old ≡ length up.old }
-    requires sizes { (length up.old ≤ length marks.old) × (length up.old ≤ length row.old) × (length up.old ≤ length stack.old) }
-    requires i { On (length up.old) i }
-    requires j { On (length up.old) j }
-    ensures { Tells K.Kind.meaning links.now (length up.old) i j result }
+) -> Result<K::Total, Unknown>
+    requires size { rows.old.n ≡ net.now.n }
+    requires offsets { net.now.n ≤ length offsets.old }
+    requires i { On net.now.n i }
+    requires j { On net.now.n j }
+    ensures { Tells K.Kind.meaning net.now.links.now net.now.n i j result }
 {
-    join(labels, stack, up, links);
-    reroot(up, links, links.len(), i);
-    if !carry::<K>(links, up, stack, marks, row) {
-        return Between::Torn;
+    join(net, rows.labels, rows.stack, rows.up);
+    reroot(net, rows.up, net.links.len(), i);
+    if !carry::<K>(net, rows.up, rows.stack, rows.marks, offsets) {
+        return Err(Unknown::Torn);
     }
-    if labels[i as usize - 1] != labels[j as usize - 1] {
-        return Between::Apart;
+    if rows.labels[i as usize - 1] != rows.labels[j as usize - 1] {
+        return Err(Unknown::Apart);
     }
-    Between::Known(get(row, j as usize - 1))
+    Ok(get(offsets, j as usize - 1))
 }
 
-// The same over the rows as they are lent, four numbers to a switch.
-fn difference_rows<K: Kind>(
-    links: &[Link<K::Latency>],
-    n: usize,
-    i: u32,
-    j: u32,
-    totals: &mut [K::Total],
-    numbers: &mut [u32],
-) -> Between<K::Total>
-    requires sound { Sound n links.now }
-    requires small { n ≤ 1024 }
-    requires few { length links.now ≤ 8192 }
-    requires totals { n ≤ length totals.old }
-    requires numbers { 4 * n ≤ length numbers.old }
-    requires i { On n i }
-    requires j { On n j }
-    ensures { Tells K.Kind.meaning links.now n i j result }
-{
-    let (labels, others) = numbers.split_at_mut(n);
-    let (up, spare) = others.split_at_mut(n);
-    let (stack, marks) = spare.split_at_mut(n);
-    difference::<K>(links, i, j, labels, up, stack, marks, totals)
-}
-
-// What the links tell of the offsets between switches i and j, over rows of which only what n switches need is touched.
+// What the links tell of the offsets between switches i and j, the second's less the first's, over rows of which only
+// what n switches need is touched.
 pub fn offset_between<K: Kind>(
-    links: &[Link<K::Latency>],
-    n: usize,
+    net: &Network<'_, K::Latency>,
     i: u32,
     j: u32,
     totals: &mut [K::Total],
     numbers: &mut [u32],
-) -> Between<K::Total>
-    requires sound { Sound n links.now }
-    requires small { n ≤ 1024 }
-    requires few { length links.now ≤ 8192 }
-    requires totals { 2 * n ≤ length totals.old }
-    requires numbers { 4 * n ≤ length numbers.old }
-    requires i { On n i }
-    requires j { On n j }
-    ensures answer { Tells K.Kind.meaning links.now n i j result }
-    ensures totals { drop (2 * n) totals.new ≡ drop (2 * n) totals.old }
-    ensures numbers { drop (4 * n) numbers.new ≡ drop (4 * n) numbers.old }
+) -> Result<K::Total, Unknown>
+    requires totals { 2 * net.now.n ≤ length totals.old }
+    requires numbers { 4 * net.now.n ≤ length numbers.old }
+    requires i { On net.now.n i }
+    requires j { On net.now.n j }
+    ensures answer { Tells K.Kind.meaning net.now.links.now net.now.n i j result }
+    ensures totals { drop (2 * net.now.n) totals.new ≡ drop (2 * net.now.n) totals.old }
+    ensures numbers { drop (4 * net.now.n) numbers.new ≡ drop (4 * net.now.n) numbers.old }
 {
-    difference_rows::<K>(
-        links,
-        n,
-        i,
-        j,
-        &mut totals[0..2 * n],
-        &mut numbers[0..4 * n],
-    )
+    let n = net.n;
+    let mut rows = Rows::new(n, &mut numbers[..4 * n]);
+    difference::<K>(net, &mut rows, &mut totals[..2 * n], i, j)
 }
 
 // With the lowest switch of every group at the root of its tree, the offsets are zero there: whether they carry the links.
 fn grounded<K: Kind>(
-    links: &[Link<K::Latency>],
-    labels: &mut [u32],
-    up: &mut [u32],
-    stack: &mut [u32],
-    marks: &mut [u32],
-    row: &mut [K::Total],
-) -> bool
-    requires sound { Sound (length up.old) links.now }
-    requires small { length up.old ≤ 1024 }
-    requires few { length links.now ≤ 8192 }
-    requires labels { length labels.old ≡ length up.old }
-    requires sizes { (length up.old ≤ length marks.old) × (length up.old ≤ length row.old) × (length up.old ≤ length stack.old) }
-    ensures torn { result ≡ false → Fits K.Kind.meaning.quantities (map (link_of K.Kind.meaning) links.now) → ⊥ }
-    ensures offsets { result ≡ true → Grounded K.Kind.meaning links.now (length up.old) row.new }
+    net: &Network<'_, K::Latency>,
+    rows: &mut Rows<'_>,
+    offsets: &mut [K::Total],
+) -> Result<(), Torn>
+    requires size { rows.old.n ≡ net.now.n }
+    requires offsets { net.now.n ≤ length offsets.old }
+    ensures { MatchResult result (λ _. Grounded K.Kind.meaning net.now.links.now net.now.n offsets.new) (λ _. Fits K.Kind.meaning.quantities (map (link_of K.Kind.meaning) net.now.links.now) → ⊥) }
 {
-    join(labels, stack, up, links);
-    root_lowest(labels, marks, up, links);
-    carry::<K>(links, up, stack, marks, row)
-}
-
-// The same over the rows as they are lent, four numbers to a switch.
-fn grounded_rows<K: Kind>(
-    links: &[Link<K::Latency>],
-    n: usize,
-    totals: &mut [K::Total],
-    numbers: &mut [u32],
-) -> bool
-    requires sound { Sound n links.now }
-    requires small { n ≤ 1024 }
-    requires few { length links.now ≤ 8192 }
-    requires totals { n ≤ length totals.old }
-    requires numbers { 4 * n ≤ length numbers.old }
-    ensures torn { result ≡ false → Fits K.Kind.meaning.quantities (map (link_of K.Kind.meaning) links.now) → ⊥ }
-    ensures offsets { result ≡ true → Grounded K.Kind.meaning links.now n totals.new }
-{
-    let (labels, others) = numbers.split_at_mut(n);
-    let (up, spare) = others.split_at_mut(n);
-    let (stack, marks) = spare.split_at_mut(n);
-    grounded::<K>(links, labels, up, stack, marks, totals)
+    join(net, rows.labels, rows.stack, rows.up);
+    root_lowest(net, rows.labels, rows.marks, rows.up);
+    if carry::<K>(net, rows.up, rows.stack, rows.marks, offsets) {
+        Ok(())
+    } else {
+        Err(Torn)
+    }
 }
 
 // Writes offsets that carry the links, zero at the lowest switch of every group, over rows of which only what n switches
-// need is touched: false where no offsets carry the links.
+// need is touched.
 pub fn grounded_offsets<K: Kind>(
-    links: &[Link<K::Latency>],
-    n: usize,
+    net: &Network<'_, K::Latency>,
     totals: &mut [K::Total],
     numbers: &mut [u32],
-) -> bool
-    requires sound { Sound n links.now }
-    requires small { n ≤ 1024 }
-    requires few { length links.now ≤ 8192 }
-    requires totals { 2 * n ≤ length totals.old }
-    requires numbers { 4 * n ≤ length numbers.old }
-    ensures torn { result ≡ false → Fits K.Kind.meaning.quantities (map (link_of K.Kind.meaning) links.now) → ⊥ }
-    ensures offsets { result ≡ true → Grounded K.Kind.meaning links.now n (take n totals.new) }
-    ensures totals { drop (2 * n) totals.new ≡ drop (2 * n) totals.old }
-    ensures numbers { drop (4 * n) numbers.new ≡ drop (4 * n) numbers.old }
+) -> Result<(), Torn>
+    requires totals { 2 * net.now.n ≤ length totals.old }
+    requires numbers { 4 * net.now.n ≤ length numbers.old }
+    ensures offsets { MatchResult result (λ _. Grounded K.Kind.meaning net.now.links.now net.now.n (take net.now.n totals.new)) (λ _. Fits K.Kind.meaning.quantities (map (link_of K.Kind.meaning) net.now.links.now) → ⊥) }
+    ensures totals { drop (2 * net.now.n) totals.new ≡ drop (2 * net.now.n) totals.old }
+    ensures numbers { drop (4 * net.now.n) numbers.new ≡ drop (4 * net.now.n) numbers.old }
 {
-    grounded_rows::<K>(links, n, &mut totals[0..n], &mut numbers[0..4 * n])
+    let n = net.n;
+    let mut rows = Rows::new(n, &mut numbers[..4 * n]);
+    grounded::<K>(net, &mut rows, &mut totals[..n])
 }

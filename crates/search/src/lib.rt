@@ -5,12 +5,17 @@ mod forest;
 mod known;
 mod link;
 mod lowest;
+mod net;
 mod offsets;
 mod path;
 mod row;
+mod rows;
 mod steps;
+mod unknown;
 mod verdict;
 
-pub use self::known::{Between, grounded_offsets, offset_between};
+pub use self::known::{grounded_offsets, offset_between};
 pub use self::link::Link;
+pub use self::net::Network;
+pub use self::unknown::{Contradiction, Torn, Unknown};
 pub use self::verdict::link_verdict;

@@ -1,36 +1,27 @@
-ghost use Rattle.std.specs.Prelude.{◌≡◌, ℕ, ◌+◌, ◌-◌, ◌<◌, ◌≤◌, List, length};
+ghost use Rattle.std.specs.Prelude.{◌≡◌, ◌≤◌, length};
 ghost use Rattle.network.specs.Climb.{Forest};
 ghost use Rattle.search.specs.Parents.{parents};
-ghost use Rattle.search.specs.Records.{graph_of, On, Sound};
+ghost use Rattle.search.specs.Records.{graph_of, On};
 ghost use Rattle.search.specs.Written.{Climbed};
 
-use crate::link::Link;
-use crate::steps::{far_end, step_of, word_of};
+use crate::net::Network;
+use crate::steps::{far_end, step_up};
 
 // Writes the steps of the way up from v, and says how many they are.
-pub(crate) fn climb<L: Copy>(
-    up: &[u32],
-    links: &[Link<L>],
-    count: usize,
-    steps: &mut [u32],
-    v: u32,
-) -> usize
-    requires forest { Forest (graph_of links.now) count (parents up.now) }
-    requires sound { Sound (length up.now) links.now }
-    requires count { count ≤ length links.now }
-    requires few { count ≤ 8192 }
-    requires inside { On (length up.now) v }
-    requires small { length up.now ≤ 1024 }
-    requires room { length up.now ≤ length steps.old }
-    ensures short { result ≤ length up.now }
-    ensures climbed { Climbed (graph_of links.now) up.now v steps.old steps.new result }
+pub(crate) fn climb<L: Copy>(net: &Network<'_, L>, up: &[u32], steps: &mut [u32], v: u32) -> usize
+    requires forest { Forest (graph_of net.now.links.now) (length net.now.links.now) (parents up.now) }
+    requires size { length up.now ≡ net.now.n }
+    requires inside { On net.now.n v }
+    requires room { net.now.n ≤ length steps.old }
+    ensures short { result ≤ net.now.n }
+    ensures climbed { Climbed (graph_of net.now.links.now) up.now v steps.old steps.new result }
 {
     let mut x = v;
     let mut m: usize = 0;
-    while let Some(s) = step_of(up[x as usize - 1]) {
-        steps[m] = word_of(s);
+    while let Some(s) = step_up(up, x) {
+        steps[m] = s.word();
         m += 1;
-        x = far_end(s, links);
+        x = far_end(s, net);
     }
     m
 }

@@ -1,6 +1,6 @@
-ghost use Rattle.std.specs.Prelude.{◌≡◌, ℕ, ◌+◌, ◌-◌, ◌*◌, ◌<◌, ◌≤◌, true, false, List, [], ◌∷◌, ◌++◌, map, length, drop, IfSome};
+ghost use Rattle.std.specs.Prelude.{◌≡◌, ◌*◌, ◌≤◌, true, [], ◌∷◌, ◌++◌, map, length, drop, IfErr};
 ghost use Rattle.network.specs.Offsets.{Carries, Fits};
-ghost use Rattle.search.specs.Records.{link_of, graph_of, On, Sound};
+ghost use Rattle.search.specs.Records.{link_of, graph_of, On};
 ghost use Rattle.search.specs.Joined.{Joined};
 ghost use Rattle.search.specs.Settled.{offset, Reached};
 ghost use Rattle.search.specs.Verdict.{Shown, Judged};
@@ -8,171 +8,125 @@ ghost use Rattle.search.specs.Verdict.{Shown, Judged};
 use crate::carries::{carried, carry};
 use crate::forest::{join, reroot};
 use crate::link::Link;
+use crate::net::Network;
 use crate::path::climb;
+use crate::rows::Rows;
+use crate::unknown::Contradiction;
 use kind::Kind;
 
 // The labels, the forest and the offsets of the links: whether the links fit.
 pub(crate) fn survey<K: Kind>(
-    links: &[Link<K::Latency>],
-    labels: &mut [u32],
-    up: &mut [u32],
-    stack: &mut [u32],
-    marks: &mut [u32],
-    row: &mut [K::Total],
+    net: &Network<'_, K::Latency>,
+    rows: &mut Rows<'_>,
+    offsets: &mut [K::Total],
 ) -> bool
-    requires sound { Sound (length up.old) links.now }
-    requires small { length up.old ≤ 1024 }
-    requires few { length links.now ≤ 8192 }
-    requires labels { length labels.old ≡ length up.old }
-    requires sizes { (length up.old ≤ length marks.old) × (length up.old ≤ length row.old) × (length up.old ≤ length stack.old) }
-    ensures joined { Joined (graph_of links.now) (length links.now) (length up.old) labels.new up.new }
-    ensures near { Reached K.Kind.meaning (length up.old) row.new }
-    ensures yes { result ≡ true → Carries K.Kind.meaning.quantities (offset K.Kind.meaning row.new) (map (link_of K.Kind.meaning) links.now) }
-    ensures no { Fits K.Kind.meaning.quantities (map (link_of K.Kind.meaning) links.now) → result ≡ true }
+    requires size { rows.old.n ≡ net.now.n }
+    requires offsets { net.now.n ≤ length offsets.old }
+    ensures size { rows.new.n ≡ net.now.n }
+    ensures joined { Joined (graph_of net.now.links.now) (length net.now.links.now) net.now.n rows.new.labels.now rows.new.up.now }
+    ensures near { Reached K.Kind.meaning net.now.n offsets.new }
+    ensures yes { result ≡ true → Carries K.Kind.meaning.quantities (offset K.Kind.meaning offsets.new) (map (link_of K.Kind.meaning) net.now.links.now) }
+    ensures no { Fits K.Kind.meaning.quantities (map (link_of K.Kind.meaning) net.now.links.now) → result ≡ true }
 {
-    join(labels, stack, up, links);
-    carry::<K>(links, up, stack, marks, row)
+    let up = &mut *rows.up;
+    join(net, rows.labels, rows.stack, up);
+    carry::<K>(net, up, rows.stack, rows.marks, offsets)
 }
 
 // Whether the links with a new one fit, after a survey of the links that found whether they do.
 fn fits_with<K: Kind>(
-    links: &[Link<K::Latency>],
-    new: Link<K::Latency>,
-    labels: &[u32],
-    up: &[u32],
-    row: &[K::Total],
+    net: &Network<'_, K::Latency>,
+    rows: &Rows<'_>,
+    offsets: &[K::Total],
+    new: &Link<K::Latency>,
     agree: bool,
 ) -> bool
-    requires small { length up.now ≤ 1024 }
-    requires labels { length labels.now ≡ length up.now }
-    requires size { length up.now ≤ length row.now }
-    requires from { On (length up.now) new.from }
-    requires to { On (length up.now) new.to }
-    requires joined { Joined (graph_of links.now) (length links.now) (length up.now) labels.now up.now }
-    requires near { Reached K.Kind.meaning (length up.now) row.now }
-    requires yes { agree ≡ true → Carries K.Kind.meaning.quantities (offset K.Kind.meaning row.now) (map (link_of K.Kind.meaning) links.now) }
-    requires no { Fits K.Kind.meaning.quantities (map (link_of K.Kind.meaning) links.now) → agree ≡ true }
-    ensures yes { result ≡ true → Fits K.Kind.meaning.quantities (map (link_of K.Kind.meaning) links.now ++ link_of K.Kind.meaning new ∷ []) }
-    ensures no { Fits K.Kind.meaning.quantities (map (link_of K.Kind.meaning) links.now ++ link_of K.Kind.meaning new ∷ []) → result ≡ true }
+    requires size { rows.now.n ≡ net.now.n }
+    requires offsets { net.now.n ≤ length offsets.now }
+    requires from { On net.now.n new.now.from }
+    requires to { On net.now.n new.now.to }
+    requires joined { Joined (graph_of net.now.links.now) (length net.now.links.now) net.now.n rows.now.labels.now rows.now.up.now }
+    requires near { Reached K.Kind.meaning net.now.n offsets.now }
+    requires yes { agree ≡ true → Carries K.Kind.meaning.quantities (offset K.Kind.meaning offsets.now) (map (link_of K.Kind.meaning) net.now.links.now) }
+    requires no { Fits K.Kind.meaning.quantities (map (link_of K.Kind.meaning) net.now.links.now) → agree ≡ true }
+    ensures yes { result ≡ true → Fits K.Kind.meaning.quantities (map (link_of K.Kind.meaning) net.now.links.now ++ link_of K.Kind.meaning new.now ∷ []) }
+    ensures no { Fits K.Kind.meaning.quantities (map (link_of K.Kind.meaning) net.now.links.now ++ link_of K.Kind.meaning new.now ∷ []) → result ≡ true }
 {
     if !agree {
         return false;
     }
-    if labels[new.from as usize - 1] != labels[new.to as usize - 1] {
+    if rows.labels[new.from as usize - 1] != rows.labels[new.to as usize - 1] {
         return true;
     }
-    carried::<K>(new, row, up.len())
+    carried::<K>(new, offsets, net.n)
 }
 
 // Writes the steps that lead back from the new link's second switch to its first, and says how many they are.
 fn way_back<K: Kind>(
-    links: &[Link<K::Latency>],
-    new: Link<K::Latency>,
-    labels: &[u32],
-    up: &mut [u32],
+    net: &Network<'_, K::Latency>,
+    rows: &mut Rows<'_>,
+    new: &Link<K::Latency>,
     steps: &mut [u32],
 ) -> usize
-    requires sound { Sound (length up.old) links.now }
-    requires small { length up.old ≤ 1024 }
-    requires few { length links.now ≤ 8192 }
-    requires labels { length labels.now ≡ length up.old }
-    requires from { On (length up.old) new.from }
-    requires to { On (length up.old) new.to }
-    requires joined { Joined (graph_of links.now) (length links.now) (length up.old) labels.now up.old }
-    requires room { length up.old ≤ length steps.old }
-    ensures short { result ≤ length up.old }
-    ensures shown { Shown K.Kind.meaning.quantities (map (link_of K.Kind.meaning) links.now) (link_of K.Kind.meaning new) steps.old steps.new result }
+    requires size { rows.old.n ≡ net.now.n }
+    requires from { On net.now.n new.now.from }
+    requires to { On net.now.n new.now.to }
+    requires joined { Joined (graph_of net.now.links.now) (length net.now.links.now) net.now.n rows.old.labels.now rows.old.up.now }
+    requires room { net.now.n ≤ length steps.old }
+    ensures short { result ≤ net.now.n }
+    ensures shown { Shown K.Kind.meaning.quantities (map (link_of K.Kind.meaning) net.now.links.now) (link_of K.Kind.meaning new.now) steps.old steps.new result }
 {
-    if labels[new.from as usize - 1] != labels[new.to as usize - 1] {
+    if rows.labels[new.from as usize - 1] != rows.labels[new.to as usize - 1] {
         return 0;
     }
-    reroot(up, links, links.len(), new.from);
-    climb(up, links, links.len(), steps, new.to)
+    reroot(net, rows.up, net.links.len(), new.from);
+    climb(net, rows.up, steps, new.to)
 }
 
-// Whether the links with a new one fit: none, or the number of steps written.
+// Whether the links with a new one fit.
 fn judge<K: Kind>(
-    links: &[Link<K::Latency>],
-    new: Link<K::Latency>,
-    labels: &mut [u32],
-    up: &mut [u32],
-    stack: &mut [u32],
-    marks: &mut [u32],
-    row: &mut [K::Total],
+    net: &Network<'_, K::Latency>,
+    rows: &mut Rows<'_>,
+    offsets: &mut [K::Total],
+    new: &Link<K::Latency>,
     steps: &mut [u32],
-) -> Option<usize>
-    requires sound { Sound (length up.old) links.now }
-    requires small { length up.old ≤ 1024 }
-    requires few { length links.now ≤ 8192 }
-    requires labels { length labels.old ≡ length up.old }
-    requires sizes { (length up.old ≤ length marks.old) × (length up.old ≤ length row.old) × (length up.old ≤ length stack.old) }
-    requires room { length up.old ≤ length steps.old }
-    requires from { On (length up.old) new.from }
-    requires to { On (length up.old) new.to }
-    ensures short { IfSome result (λ m. m ≤ length up.old) }
-    ensures verdict { Judged K.Kind.meaning.quantities (map (link_of K.Kind.meaning) links.now) (link_of K.Kind.meaning new) steps.old steps.new result }
+) -> Result<(), Contradiction>
+    requires size { rows.old.n ≡ net.now.n }
+    requires offsets { net.now.n ≤ length offsets.old }
+    requires room { net.now.n ≤ length steps.old }
+    requires from { On net.now.n new.now.from }
+    requires to { On net.now.n new.now.to }
+    ensures short { IfErr result (λ e. e.steps ≤ net.now.n) }
+    ensures verdict { Judged K.Kind.meaning.quantities (map (link_of K.Kind.meaning) net.now.links.now) (link_of K.Kind.meaning new.now) steps.old steps.new result }
 {
-    let agree = survey::<K>(links, labels, up, stack, marks, row);
-    if fits_with::<K>(links, new, labels, up, row, agree) {
-        return None;
+    let agree = survey::<K>(net, rows, offsets);
+    if fits_with::<K>(net, rows, offsets, new, agree) {
+        return Ok(());
     }
-    Some(way_back::<K>(links, new, labels, up, steps))
-}
-
-// The same over the rows as they are lent, four numbers to a switch.
-fn judge_rows<K: Kind>(
-    links: &[Link<K::Latency>],
-    new: Link<K::Latency>,
-    n: usize,
-    totals: &mut [K::Total],
-    numbers: &mut [u32],
-    steps: &mut [u32],
-) -> Option<usize>
-    requires sound { Sound n links.now }
-    requires small { n ≤ 1024 }
-    requires few { length links.now ≤ 8192 }
-    requires totals { n ≤ length totals.old }
-    requires numbers { 4 * n ≤ length numbers.old }
-    requires steps { n ≤ length steps.old }
-    requires from { On n new.from }
-    requires to { On n new.to }
-    ensures short { IfSome result (λ m. m ≤ n) }
-    ensures verdict { Judged K.Kind.meaning.quantities (map (link_of K.Kind.meaning) links.now) (link_of K.Kind.meaning new) steps.old steps.new result }
-{
-    let (labels, others) = numbers.split_at_mut(n);
-    let (up, spare) = others.split_at_mut(n);
-    let (stack, marks) = spare.split_at_mut(n);
-    judge::<K>(links, new, labels, up, stack, marks, totals, steps)
+    Err(Contradiction {
+        steps: way_back::<K>(net, rows, new, steps),
+    })
 }
 
 // The verdict on a new link, over rows of which only what n switches need is touched.
 pub fn link_verdict<K: Kind>(
-    links: &[Link<K::Latency>],
-    new: Link<K::Latency>,
-    n: usize,
+    net: &Network<'_, K::Latency>,
+    new: &Link<K::Latency>,
     totals: &mut [K::Total],
     numbers: &mut [u32],
     steps: &mut [u32],
-) -> Option<usize>
-    requires sound { Sound n links.now }
-    requires small { n ≤ 1024 }
-    requires few { length links.now ≤ 8192 }
-    requires totals { 2 * n ≤ length totals.old }
-    requires numbers { 4 * n ≤ length numbers.old }
-    requires steps { n ≤ length steps.old }
-    requires from { On n new.from }
-    requires to { On n new.to }
-    ensures short { IfSome result (λ m. m ≤ n) }
-    ensures verdict { Judged K.Kind.meaning.quantities (map (link_of K.Kind.meaning) links.now) (link_of K.Kind.meaning new) steps.old steps.new result }
-    ensures totals { drop (2 * n) totals.new ≡ drop (2 * n) totals.old }
-    ensures numbers { drop (4 * n) numbers.new ≡ drop (4 * n) numbers.old }
+) -> Result<(), Contradiction>
+    requires totals { 2 * net.now.n ≤ length totals.old }
+    requires numbers { 4 * net.now.n ≤ length numbers.old }
+    requires steps { net.now.n ≤ length steps.old }
+    requires from { On net.now.n new.now.from }
+    requires to { On net.now.n new.now.to }
+    ensures short { IfErr result (λ e. e.steps ≤ net.now.n) }
+    ensures verdict { Judged K.Kind.meaning.quantities (map (link_of K.Kind.meaning) net.now.links.now) (link_of K.Kind.meaning new.now) steps.old steps.new result }
+    ensures totals { drop (2 * net.now.n) totals.new ≡ drop (2 * net.now.n) totals.old }
+    ensures numbers { drop (4 * net.now.n) numbers.new ≡ drop (4 * net.now.n) numbers.old }
 {
-    judge_rows::<K>(
-        links,
-        new,
-        n,
-        &mut totals[0..2 * n],
-        &mut numbers[0..4 * n],
-        steps,
-    )
+    let n = net.n;
+    let mut rows = Rows::new(n, &mut numbers[..4 * n]);
+    judge::<K>(net, &mut rows, &mut totals[..2 * n], new, steps)
 }

@@ -17,18 +17,18 @@ returns-then-not-carried g c =
     record {
       yes = λ e. absurd (both_ways false refl e);
       no = λ h. absurd (both_ways c.carried.result c.if-not-carried.true (c.carried.ensures.no
-          (subst (Carried g.K.Kind.meaning.quantities (offset g.K.Kind.meaning c.args.row.now)) (link_here g.K.Kind.meaning c.args.links.now c.loop-k.k c.index-links-k.result (omega arith) c.index-links-k.is)
-          (h (suc c.loop-k.k) (omega arith, omega (arith, length-map c.args.links.now (link_of g.K.Kind.meaning)))))));
+          (subst (Carried g.K.Kind.meaning.quantities (offset g.K.Kind.meaning c.args.row.now)) (link_here g.K.Kind.meaning c.args.net.now.links.now c.loop-link.link-index c.link-item.result (omega arith) c.link-item.is)
+          (h (suc c.loop-link.link-index) (omega arith, omega (arith, length-map c.args.net.now.links.now (link_of g.K.Kind.meaning)))))));
     }
 
-pub loop-k-preserved : goal.loop-k-preserved
-loop-k-preserved g c =
-    below_more (λ p. Carried g.K.Kind.meaning.quantities (offset g.K.Kind.meaning c.args.row.now) (at g.K.Kind.meaning.quantities (map (link_of g.K.Kind.meaning) c.args.links.now) (suc p))) c.loop-k.k c.loop-k.invariant
-    (subst (Carried g.K.Kind.meaning.quantities (offset g.K.Kind.meaning c.args.row.now)) (sym (link_here g.K.Kind.meaning c.args.links.now c.loop-k.k c.index-links-k.result (omega arith) c.index-links-k.is)) (c.carried.ensures.yes c.if-not-carried.false))
+pub loop-link-preserved : goal.loop-link-preserved
+loop-link-preserved g c =
+    below_more (λ p. Carried g.K.Kind.meaning.quantities (offset g.K.Kind.meaning c.args.row.now) (at g.K.Kind.meaning.quantities (map (link_of g.K.Kind.meaning) c.args.net.now.links.now) (suc p))) c.loop-link.link-index c.loop-link.invariant
+    (subst (Carried g.K.Kind.meaning.quantities (offset g.K.Kind.meaning c.args.row.now)) (sym (link_here g.K.Kind.meaning c.args.net.now.links.now c.loop-link.link-index c.link-item.result (omega arith) c.link-item.is)) (c.carried.ensures.yes c.if-not-carried.false))
 
 pub returns : goal.returns
 returns g c =
     record {
-      yes = λ e. from_one g.K.Kind.meaning.quantities (offset g.K.Kind.meaning c.args.row.now) (map (link_of g.K.Kind.meaning) c.args.links.now) (λ p h. c.loop-k.invariant p (omega (arith, length-map c.args.links.now (link_of g.K.Kind.meaning))));
+      yes = λ e. from_one g.K.Kind.meaning.quantities (offset g.K.Kind.meaning c.args.row.now) (map (link_of g.K.Kind.meaning) c.args.net.now.links.now) (λ p h. c.loop-link.invariant p (omega (arith, length-map c.args.net.now.links.now (link_of g.K.Kind.meaning))));
       no = λ h. refl;
     }

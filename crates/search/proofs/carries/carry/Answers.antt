@@ -5,22 +5,20 @@ use Rattle.search.proofs.carries.carry.Goals as goal
 
 pub all_carried-requires : goal.all_carried-requires
 all_carried-requires g c =
-    let z = wired (length c.args.up.now) (length c.args.links.now) c.args.links.now (omega arith) c.requires.sound in
-    let b : length c.args.up.now ≤ length c.args.row.now = c.requires.sizes.1 in
+    let z = wired c.args.net.now.n (length c.args.net.now.links.now) c.args.net.now.links.now (omega arith) c.args.net.now.sound in
+    let b : c.args.net.now.n ≤ length c.args.row.now = c.requires.sizes.1 in
     record {
-      small = c.requires.small;
       size = omega (arith, c.settle_all.auto.row);
-      sound = c.requires.sound;
-      near = reached g.K.Kind.meaning c.args.links.now (length c.args.up.now) c.args.up.now c.settle_all.new.row z c.requires.forest c.settle_all.ensures c.requires.small;
+      near = reached g.K.Kind.meaning c.args.net.now.links.now c.args.net.now.n c.args.up.now c.settle_all.new.row z c.requires.forest c.settle_all.ensures c.args.net.now.small;
     }
 
 pub returns : goal.returns
 returns g c =
-    let z = wired (length c.args.up.now) (length c.args.links.now) c.args.links.now (omega arith) c.requires.sound in
-    let b : length c.args.up.now ≤ length c.args.row.now = c.requires.sizes.1 in
+    let z = wired c.args.net.now.n (length c.args.net.now.links.now) c.args.net.now.links.now (omega arith) c.args.net.now.sound in
+    let b : c.args.net.now.n ≤ length c.args.row.now = c.requires.sizes.1 in
     record {
       placed = c.settle_all.ensures;
-      near = reached g.K.Kind.meaning c.args.links.now (length c.args.up.now) c.args.up.now c.settle_all.new.row z c.requires.forest c.settle_all.ensures c.requires.small;
+      near = reached g.K.Kind.meaning c.args.net.now.links.now c.args.net.now.n c.args.up.now c.settle_all.new.row z c.requires.forest c.settle_all.ensures c.args.net.now.small;
       yes = c.all_carried.ensures.yes;
-      no = λ h. c.all_carried.ensures.no (fits_carries g.K.Kind.meaning c.args.links.now (length c.args.up.now) c.args.up.now c.settle_all.new.row z c.requires.forest c.settle_all.ensures (omega (arith, c.settle_all.auto.row)) h);
+      no = λ h. c.all_carried.ensures.no (fits_carries g.K.Kind.meaning c.args.net.now.links.now c.args.net.now.n c.args.up.now c.settle_all.new.row z c.requires.forest c.settle_all.ensures (omega (arith, c.settle_all.auto.row)) h);
     }

@@ -32,20 +32,20 @@ far_end-i-requires g c = let e = place_turned c.args.s c.reversed.result c.rever
 
 pub reroot-requires : goal.reroot-requires
 reroot-requires g c =
-    let z = wired (length c.args.up.now) (suc c.args.k) c.args.links.now (omega (arith, c.requires.room)) c.requires.sound in
-    let a = at_start (graph_of c.args.links.now) c.args.k (length c.args.up.now) z c.args.s c.reversed.result c.far_end-i.result c.requires.next c.reversed.ensures c.far_end-i.ensures in
-    record { forest = c.requires.forest; sound = c.requires.sound; count = omega (arith, c.requires.room); few = omega (arith, c.requires.few); inside = a.1 }
+    let z = wired c.args.net.now.n (suc c.args.k) c.args.net.now.links.now (omega (arith, c.requires.room)) c.args.net.now.sound in
+    let a = at_start (graph_of c.args.net.now.links.now) c.args.k c.args.net.now.n z c.args.s c.reversed.result c.far_end-i.result c.requires.next c.reversed.ensures c.far_end-i.ensures in
+    record { forest = c.requires.forest; size = c.requires.size; count = omega (arith, c.requires.room); inside = a.1 }
 
 pub overflow_sub-up : goal.overflow_sub-up
 overflow_sub-up g c =
-    let z = wired (length c.args.up.now) (suc c.args.k) c.args.links.now (omega (arith, c.requires.room)) c.requires.sound in
-    (at_start (graph_of c.args.links.now) c.args.k (length c.args.up.now) z c.args.s c.reversed.result c.far_end-i.result c.requires.next c.reversed.ensures c.far_end-i.ensures).1.0
+    let z = wired c.args.net.now.n (suc c.args.k) c.args.net.now.links.now (omega (arith, c.requires.room)) c.args.net.now.sound in
+    (at_start (graph_of c.args.net.now.links.now) c.args.k c.args.net.now.n z c.args.s c.reversed.result c.far_end-i.result c.requires.next c.reversed.ensures c.far_end-i.ensures).1.0
 
 pub bounds-up-i : goal.bounds-up-i
 bounds-up-i g c =
-    let z = wired (length c.args.up.now) (suc c.args.k) c.args.links.now (omega (arith, c.requires.room)) c.requires.sound in
-    let a = at_start (graph_of c.args.links.now) c.args.k (length c.args.up.now) z c.args.s c.reversed.result c.far_end-i.result c.requires.next c.reversed.ensures c.far_end-i.ensures in
-    omega (arith, a.1.0, a.1.1)
+    let z = wired c.args.net.now.n (suc c.args.k) c.args.net.now.links.now (omega (arith, c.requires.room)) c.args.net.now.sound in
+    let a = at_start (graph_of c.args.net.now.links.now) c.args.k c.args.net.now.n z c.args.s c.reversed.result c.far_end-i.result c.requires.next c.reversed.ensures c.far_end-i.ensures in
+    omega (arith, a.1.0, a.1.1, c.requires.size)
 
 -- the forest after the write, over plain values
 hung : (g : Graph) (k n : ℕ) (row : List ℕ) (s : Step) (i w : ℕ) → length row ≡ n → Forest g k (parents row) → place s ≡ k + 1 → i ≡ start g s → On n i → parents row i ≡ None → decode w ≡ Some s → (Connected g (Upto k) (start g s) (end g s) → ⊥) → Forest g (k + 1) (parents (set row (i - 1) w))
@@ -56,6 +56,6 @@ hung g k n row s i w e f h q o r d a =
 
 pub returns : goal.returns
 returns g c =
-    let z = wired (length c.args.up.now) (suc c.args.k) c.args.links.now (omega (arith, c.requires.room)) c.requires.sound in
-    let a = at_start (graph_of c.args.links.now) c.args.k (length c.args.up.now) z c.args.s c.reversed.result c.far_end-i.result c.requires.next c.reversed.ensures c.far_end-i.ensures in
-    hung (graph_of c.args.links.now) c.args.k (length c.args.up.now) c.reroot.new.up c.args.s c.far_end-i.result c.word_of.result (omega arith) c.reroot.ensures.still c.requires.next a.0 a.1 c.reroot.ensures.root c.word_of.ensures.back c.requires.apart
+    let z = wired c.args.net.now.n (suc c.args.k) c.args.net.now.links.now (omega (arith, c.requires.room)) c.args.net.now.sound in
+    let a = at_start (graph_of c.args.net.now.links.now) c.args.k c.args.net.now.n z c.args.s c.reversed.result c.far_end-i.result c.requires.next c.reversed.ensures c.far_end-i.ensures in
+    hung (graph_of c.args.net.now.links.now) c.args.k c.args.net.now.n c.reroot.new.up c.args.s c.far_end-i.result c.word.result (c.reroot.auto.up ∙ c.requires.size) c.reroot.ensures.still c.requires.next a.0 a.1 c.reroot.ensures.root (c.word.ensures.back (omega (arith, c.requires.next, c.requires.room, c.args.net.now.few))) c.requires.apart

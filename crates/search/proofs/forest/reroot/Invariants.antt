@@ -9,10 +9,10 @@ use Rattle.search.proofs.forest.reroot.Given as goal
 
 abbrev pub invariant-loop-s : goal.invariant-loop-s
 invariant-loop-s g l =
-    Rerooting (graph_of l.links) l.count (parents l.up) l.i l.x (decode l.hang)
-    × On (length l.initial.up) l.x
-    × Connected (graph_of l.links) (Upto l.count) l.i l.x
-    × ((v : ℕ) → (Connected (graph_of l.links) (Upto l.count) l.i v → ⊥) → parents l.up v ≡ parents l.initial.up v)
+    Rerooting (graph_of l.net.links.now) l.count (parents l.up) l.i l.x (decode l.hang)
+    × On l.net.n l.x
+    × Connected (graph_of l.net.links.now) (Upto l.count) l.i l.x
+    × ((v : ℕ) → (Connected (graph_of l.net.links.now) (Upto l.count) l.i v → ⊥) → parents l.up v ≡ parents l.initial.up v)
 
 abbrev pub decreases-loop-s : goal.decreases-loop-s
-decreases-loop-s g l = length (ups (graph_of l.links) (parents l.up) (length l.initial.up) l.x)
+decreases-loop-s g l = length (ups (graph_of l.net.links.now) (parents l.up) l.net.n l.x)

@@ -5,11 +5,11 @@ use Rattle.search.proofs.offsets.ground.Goals as goal
 
 pub returns : goal.returns
 returns g c =
-    let b : length c.args.up.now ≤ length c.args.marks.now = c.requires.sizes.0 in
+    let b : c.args.net.now.n ≤ length c.args.marks.now = c.requires.sizes.0 in
     let l : c.args.w - 1 < length c.args.marks.now = omega (arith, c.requires.w.0, c.requires.w.1) in
     record {
-      settled = subst (Settled g.K.Kind.meaning c.args.links.now (length c.args.up.now) c.args.up.now (set c.args.marks.now (c.args.w - 1) 1)) (sym c.put.ensures)
-          (grounded g.K.Kind.meaning c.args.links.now (length c.args.up.now) c.args.up.now c.args.marks.now c.args.row.now c.requires.sizes c.requires.settled c.args.w c.requires.w (c.requires.root c.if-marks-w-ne0.false) c.zero.result c.zero.ensures.0 c.zero.ensures.1);
+      settled = subst (Settled g.K.Kind.meaning c.args.net.now.links.now c.args.net.now.n c.args.up.now (set c.args.marks.now (c.args.w - 1) 1)) (sym c.put.ensures)
+          (grounded g.K.Kind.meaning c.args.net.now.links.now c.args.net.now.n c.args.up.now c.args.marks.now c.args.row.now c.requires.sizes c.requires.settled c.args.w c.requires.w (c.requires.root c.if-marks-w-ne0.false) c.zero.result c.zero.ensures.0 c.zero.ensures.1);
       kept = mark_keeps c.args.marks.now (c.args.w - 1) l;
       done = marked c.args.marks.now (c.args.w - 1) l;
     }

@@ -9,12 +9,12 @@ use Rattle.search.proofs.offsets.rise.Given as goal
 
 abbrev pub invariant-loop-x : goal.invariant-loop-x
 invariant-loop-x g l =
-    On (length l.up) l.x
-    × Chain (graph_of l.links) (length l.up) l.up l.stack l.top
+    On l.net.n l.x
+    × Chain (graph_of l.net.links.now) l.net.n l.up l.stack l.top
     × (get_or l.stack l.top 0 ≡ l.x)
     × (get_or l.stack 0 0 ≡ l.v)
-    × ((xs : List Step) × (length xs ≡ l.top) × Leads (graph_of l.links) (parents l.up) l.v xs l.x)
-    × (l.top < length l.up)
+    × ((xs : List Step) × (length xs ≡ l.top) × Leads (graph_of l.net.links.now) (parents l.up) l.v xs l.x)
+    × (l.top < l.net.n)
 
 abbrev pub decreases-loop-x : goal.decreases-loop-x
-decreases-loop-x g l = length (ups (graph_of l.links) (parents l.up) (length l.up) l.x)
+decreases-loop-x g l = length (ups (graph_of l.net.links.now) (parents l.up) l.net.n l.x)

@@ -1,20 +1,19 @@
 use Rattle.std.proofs.Common.{◌≡◌, ◌+◌, ◌-◌, ◌≤◌, length, get_or, ap, ◌∙◌, arith, below_more}
+use Rattle.search.proofs.Filled.{zeros}
 use Rattle.search.proofs.offsets.settle_all.Goals as goal
 
 pub loop-i-init : goal.loop-i-init
-loop-i-init g c = (λ v o h. absurd (h (c.wipe.ensures (v - 1))), λ v h. absurd (omega arith))
+loop-i-init g c = (λ v o h. absurd (h (zeros (length c.args.marks.now) c.fill.new.self (c.fill.ensures.after (λ y e. e)) (v - 1))), λ v h. absurd (omega arith))
 
 pub settle-requires : goal.settle-requires
 settle-requires g c =
-    let a : length c.args.up.now ≤ length c.args.marks.now = c.requires.sizes.0 in
-    let b : length c.args.up.now ≤ length c.args.row.now = c.requires.sizes.1 in
-    let s : length c.args.up.now ≤ length c.args.stack.now = c.requires.sizes.2 in
+    let a : c.args.net.now.n ≤ length c.args.marks.now = c.requires.sizes.0 in
+    let b : c.args.net.now.n ≤ length c.args.row.now = c.requires.sizes.1 in
+    let s : c.args.net.now.n ≤ length c.args.stack.now = c.requires.sizes.2 in
     record {
       forest = c.requires.forest;
-      sound = c.requires.sound;
-      count = c.requires.count;
-      small = c.requires.small;
-      sizes = (omega (arith, c.loop-i.auto.marks, c.wipe.auto.marks), omega (arith, c.loop-i.auto.row), omega (arith, c.loop-i.auto.stack));
+      size = c.requires.size;
+      sizes = (omega (arith, c.loop-i.auto.marks, c.fill.ensures.len), omega (arith, c.loop-i.auto.row), omega (arith, c.loop-i.auto.stack));
       settled = c.loop-i.invariant.0;
       v = (omega arith, omega arith);
     }

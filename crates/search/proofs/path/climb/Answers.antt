@@ -7,53 +7,47 @@ use Rattle.search.proofs.path.climb.Goals as goal
 pub loop-s-init : goal.loop-s-init
 loop-s-init g c = (c.requires.inside, ([], nothing c.args.steps.now, λ r ss h. h), omega arith)
 
-pub word_of-requires : goal.word_of-requires
-word_of-requires g c =
-    let z = wired (length c.args.up.now) c.args.count c.args.links.now c.requires.count c.requires.sound in
-    let j = joins (graph_of c.args.links.now) c.args.count (length c.args.up.now) z c.args.up.now c.requires.forest c.loop-s.x c.loop-s.invariant.0 c.in-Some.s c.in-Some.ensures in
-    omega (arith, j.1, c.requires.few)
-
 pub far_end-x-requires : goal.far_end-x-requires
 far_end-x-requires g c =
-    let z = wired (length c.args.up.now) c.args.count c.args.links.now c.requires.count c.requires.sound in
-    let j = joins (graph_of c.args.links.now) c.args.count (length c.args.up.now) z c.args.up.now c.requires.forest c.loop-s.x c.loop-s.invariant.0 c.in-Some.s c.in-Some.ensures in
-    record { low = j.0; high = omega (arith, j.1, c.requires.count) }
+    let z = wired c.args.net.now.n (length c.args.net.now.links.now) c.args.net.now.links.now (omega arith) c.args.net.now.sound in
+    let j = joins (graph_of c.args.net.now.links.now) (length c.args.net.now.links.now) c.args.net.now.n z c.args.up.now c.requires.forest c.loop-s.x c.loop-s.invariant.0 c.in-Some.s c.in-Some.ensures in
+    record { low = j.0; high = omega (arith, j.1) }
 
 pub bounds-steps-m : goal.bounds-steps-m
 bounds-steps-m g c =
-    let z = wired (length c.args.up.now) c.args.count c.args.links.now c.requires.count c.requires.sound in
-    let b = fewer_yet (graph_of c.args.links.now) c.args.count (length c.args.up.now) z c.args.up.now c.requires.forest c.loop-s.x c.loop-s.invariant.0 c.in-Some.s c.in-Some.ensures c.args.v c.loop-s.invariant.1.0 c.requires.inside c.loop-s.invariant.1.2 in
+    let z = wired c.args.net.now.n (length c.args.net.now.links.now) c.args.net.now.links.now (omega arith) c.args.net.now.sound in
+    let b = fewer_yet (graph_of c.args.net.now.links.now) (length c.args.net.now.links.now) c.args.net.now.n z c.args.up.now c.requires.forest c.loop-s.x c.loop-s.invariant.0 c.in-Some.s c.in-Some.ensures c.args.v c.loop-s.invariant.1.0 c.requires.inside c.loop-s.invariant.1.2 in
     omega (arith, b, c.requires.room, c.loop-s.invariant.1.1.count, c.loop-s.auto.steps)
 
 pub loop-s-smaller : goal.loop-s-smaller
 loop-s-smaller g c =
-    let z = wired (length c.args.up.now) c.args.count c.args.links.now c.requires.count c.requires.sound in
-    next_less (graph_of c.args.links.now) c.args.count (length c.args.up.now) z c.args.up.now c.requires.forest c.loop-s.x c.loop-s.invariant.0 c.in-Some.s c.in-Some.ensures c.far_end-x.result c.far_end-x.ensures
+    let z = wired c.args.net.now.n (length c.args.net.now.links.now) c.args.net.now.links.now (omega arith) c.args.net.now.sound in
+    next_less (graph_of c.args.net.now.links.now) (length c.args.net.now.links.now) c.args.net.now.n z c.args.up.now c.requires.forest c.loop-s.x c.loop-s.invariant.0 c.in-Some.s c.in-Some.ensures c.far_end-x.result c.far_end-x.ensures
 
 pub loop-s-preserved : goal.loop-s-preserved
 loop-s-preserved g c =
-    let z = wired (length c.args.up.now) c.args.count c.args.links.now c.requires.count c.requires.sound in
-    let b = fewer_yet (graph_of c.args.links.now) c.args.count (length c.args.up.now) z c.args.up.now c.requires.forest c.loop-s.x c.loop-s.invariant.0 c.in-Some.s c.in-Some.ensures c.args.v c.loop-s.invariant.1.0 c.requires.inside c.loop-s.invariant.1.2 in (
-      next_on (graph_of c.args.links.now) c.args.count (length c.args.up.now) z c.args.up.now c.requires.forest c.loop-s.x c.loop-s.invariant.0 c.in-Some.s c.in-Some.ensures c.far_end-x.result c.far_end-x.ensures,
+    let z = wired c.args.net.now.n (length c.args.net.now.links.now) c.args.net.now.links.now (omega arith) c.args.net.now.sound in
+    let b = fewer_yet (graph_of c.args.net.now.links.now) (length c.args.net.now.links.now) c.args.net.now.n z c.args.up.now c.requires.forest c.loop-s.x c.loop-s.invariant.0 c.in-Some.s c.in-Some.ensures c.args.v c.loop-s.invariant.1.0 c.requires.inside c.loop-s.invariant.1.2 in (
+      next_on (graph_of c.args.net.now.links.now) (length c.args.net.now.links.now) c.args.net.now.n z c.args.up.now c.requires.forest c.loop-s.x c.loop-s.invariant.0 c.in-Some.s c.in-Some.ensures c.far_end-x.result c.far_end-x.ensures,
       (
         c.loop-s.invariant.1.0 ++ (c.in-Some.s ∷ []),
-        more c.args.steps.now c.loop-s.steps c.loop-s.m c.word_of.result c.loop-s.invariant.1.0 c.in-Some.s c.loop-s.invariant.1.1 (omega (arith, b, c.requires.room, c.loop-s.invariant.1.1.count, c.loop-s.auto.steps)) c.word_of.ensures.word,
-        leads_on (graph_of c.args.links.now) c.args.count (length c.args.up.now) z c.args.up.now c.requires.forest c.loop-s.x c.loop-s.invariant.0 c.in-Some.s c.in-Some.ensures c.args.v c.loop-s.invariant.1.0 c.far_end-x.result c.far_end-x.ensures c.loop-s.invariant.1.2,
+        more c.args.steps.now c.loop-s.steps c.loop-s.m c.word.result c.loop-s.invariant.1.0 c.in-Some.s c.loop-s.invariant.1.1 (omega (arith, b, c.requires.room, c.loop-s.invariant.1.1.count, c.loop-s.auto.steps)) (c.word.ensures.word (let j = joins (graph_of c.args.net.now.links.now) (length c.args.net.now.links.now) c.args.net.now.n z c.args.up.now c.requires.forest c.loop-s.x c.loop-s.invariant.0 c.in-Some.s c.in-Some.ensures in omega (arith, j.1, c.args.net.now.few))),
+        leads_on (graph_of c.args.net.now.links.now) (length c.args.net.now.links.now) c.args.net.now.n z c.args.up.now c.requires.forest c.loop-s.x c.loop-s.invariant.0 c.in-Some.s c.in-Some.ensures c.args.v c.loop-s.invariant.1.0 c.far_end-x.result c.far_end-x.ensures c.loop-s.invariant.1.2,
       ),
       omega (arith, b, c.loop-s.invariant.1.1.count),
     )
 
 pub returns : goal.returns
-returns g c = record { short = c.loop-s.invariant.2; climbed = (c.loop-s.invariant.1.0, c.loop-s.x, at_root (graph_of c.args.links.now) c.args.up.now c.args.v c.loop-s.x c.loop-s.invariant.1.0 c.loop-s.invariant.0.0 c.in_default.ensures c.loop-s.invariant.1.2, c.loop-s.invariant.1.1) }
+returns g c = record { short = c.loop-s.invariant.2; climbed = (c.loop-s.invariant.1.0, c.loop-s.x, at_root (graph_of c.args.net.now.links.now) c.args.up.now c.args.v c.loop-s.x c.loop-s.invariant.1.0 c.loop-s.invariant.0.0 c.in_default.ensures c.loop-s.invariant.1.2, c.loop-s.invariant.1.1) }
 
 pub offset_bounds-steps-m : goal.offset_bounds-steps-m
 offset_bounds-steps-m g c =
-    let z = wired (length c.args.up.now) c.args.count c.args.links.now c.requires.count c.requires.sound in
-    let b = fewer_yet (graph_of c.args.links.now) c.args.count (length c.args.up.now) z c.args.up.now c.requires.forest c.loop-s.x c.loop-s.invariant.0 c.in-Some.s c.in-Some.ensures c.args.v c.loop-s.invariant.1.0 c.requires.inside c.loop-s.invariant.1.2 in
-    omega (arith, b, c.requires.small, c.loop-s.invariant.1.1.count)
+    let z = wired c.args.net.now.n (length c.args.net.now.links.now) c.args.net.now.links.now (omega arith) c.args.net.now.sound in
+    let b = fewer_yet (graph_of c.args.net.now.links.now) (length c.args.net.now.links.now) c.args.net.now.n z c.args.up.now c.requires.forest c.loop-s.x c.loop-s.invariant.0 c.in-Some.s c.in-Some.ensures c.args.v c.loop-s.invariant.1.0 c.requires.inside c.loop-s.invariant.1.2 in
+    omega (arith, b, c.args.net.now.small, c.loop-s.invariant.1.1.count)
 
 pub overflow_add-m : goal.overflow_add-m
 overflow_add-m g c =
-    let z = wired (length c.args.up.now) c.args.count c.args.links.now c.requires.count c.requires.sound in
-    let b = fewer_yet (graph_of c.args.links.now) c.args.count (length c.args.up.now) z c.args.up.now c.requires.forest c.loop-s.x c.loop-s.invariant.0 c.in-Some.s c.in-Some.ensures c.args.v c.loop-s.invariant.1.0 c.requires.inside c.loop-s.invariant.1.2 in
-    omega (arith, b, c.requires.small, c.loop-s.invariant.1.1.count)
+    let z = wired c.args.net.now.n (length c.args.net.now.links.now) c.args.net.now.links.now (omega arith) c.args.net.now.sound in
+    let b = fewer_yet (graph_of c.args.net.now.links.now) (length c.args.net.now.links.now) c.args.net.now.n z c.args.up.now c.requires.forest c.loop-s.x c.loop-s.invariant.0 c.in-Some.s c.in-Some.ensures c.args.v c.loop-s.invariant.1.0 c.requires.inside c.loop-s.invariant.1.2 in
+    omega (arith, b, c.args.net.now.small, c.loop-s.invariant.1.1.count)

@@ -8,7 +8,7 @@ use Rattle.search.proofs.Ways.{Leads}
 use Rattle.search.proofs.path.climb.Given as goal
 
 abbrev pub invariant-loop-s : goal.invariant-loop-s
-invariant-loop-s g l = On (length l.up) l.x × ((xs : List Step) × Written l.initial.steps l.steps l.m xs × Leads (graph_of l.links) (parents l.up) l.v xs l.x) × (l.m ≤ length l.up)
+invariant-loop-s g l = On l.net.n l.x × ((xs : List Step) × Written l.initial.steps l.steps l.m xs × Leads (graph_of l.net.links.now) (parents l.up) l.v xs l.x) × (l.m ≤ l.net.n)
 
 abbrev pub decreases-loop-s : goal.decreases-loop-s
-decreases-loop-s g l = length (ups (graph_of l.links) (parents l.up) (length l.up) l.x)
+decreases-loop-s g l = length (ups (graph_of l.net.links.now) (parents l.up) l.net.n l.x)
