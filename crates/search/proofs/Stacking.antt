@@ -1,5 +1,5 @@
 -- A chain of switches, one more at a time.
-use Rattle.std.proofs.Common.{◌≡◌, ℕ, ◌+◌, ◌-◌, ◌<◌, ◌≤◌, List, length, get_or, set, Some, sym, ap, ◌∙◌, subst, inl, inr, arith, get_or-set_other, get_or-set_same}
+use Rattle.std.proofs.Common.{◌≡◌, ℕ, ◌+◌, ◌<◌, ◌≤◌, List, length, get_or, set, Some, sym, ap, ◌∙◌, subst, inl, inr, arith, get_or-set_other, get_or-set_same}
 use Rattle.std.proofs.lemmas.Bool.{cases_eq}
 use Rattle.network.specs.declared.Step.{Step}
 use Rattle.network.specs.Graph.{Graph, end}
@@ -33,10 +33,3 @@ module _ (g : Graph) (n : ℕ) (up stack : List ℕ) (top : ℕ) (C : Chain g n 
           | inr p ↦ let a = C.above i (omega arith) in (a.0, ap (parents up) (keep i (omega arith)) ∙ a.1, a.2 ∙ sym (keep (i + 1) (omega arith)))
         ];
       }
-
-module _ (g : Graph) (n : ℕ) (up stack : List ℕ) (top : ℕ) (C : Chain g n up stack top) where
-  pub shorter : Chain g n up stack (top - 1)
-  shorter = record { on = λ i h. C.on i (omega arith); above = λ i h. C.above i (omega arith) }
-
-  pub below : 1 ≤ top → (s : Step) × (parents up (get_or stack (top - 1) 0) ≡ Some s) × (end g s ≡ get_or stack top 0)
-  below t = let a = C.above (top - 1) (omega arith) in let q : top - 1 + 1 ≡ top = omega arith in (a.0, a.1, a.2 ∙ ap (λ j. get_or stack j 0) q)

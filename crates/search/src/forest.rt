@@ -111,8 +111,8 @@ fn scatter(labels: &mut [u32], ranks: &mut [u32], up: &mut [u32])
     ensures ranks { (v : ℕ) → slice_index ranks.new v ≡ 0 }
     ensures up { (v : ℕ) → slice_index up.new v ≡ 0 }
 {
-    for i in 0..labels.len() {
-        labels[i] = i as u32 + 1;
+    for (i, label) in labels.iter_mut().enumerate() {
+        *label = i as u32 + 1;
     }
     ranks.fill(0);
     up.fill(0);

@@ -7,7 +7,6 @@ use crate::carries::carry;
 use crate::forest::{join, reroot};
 use crate::lowest::root_lowest;
 use crate::net::Network;
-use crate::row::get;
 use crate::rows::Rows;
 use crate::unknown::{Torn, Unknown};
 use kind::Kind;
@@ -34,7 +33,7 @@ fn difference<K: Kind>(
     if rows.labels[i as usize - 1] != rows.labels[j as usize - 1] {
         return Err(Unknown::Apart);
     }
-    Ok(get(offsets, j as usize - 1))
+    Ok(offsets[j as usize - 1])
 }
 
 // What the links tell of the offsets between switches i and j, the second's less the first's, over rows of which only

@@ -8,7 +8,6 @@ mod lowest;
 mod net;
 mod offsets;
 mod path;
-mod row;
 mod rows;
 mod steps;
 mod unknown;

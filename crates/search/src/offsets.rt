@@ -8,7 +8,6 @@ ghost use Rattle.search.specs.Settled.{worth, gap, Placed, Settled, Kept};
 ghost use Rattle.search.specs.Chain.{Chain};
 
 use crate::net::Network;
-use crate::row::put;
 use crate::steps::{far_end, step_up};
 use kind::Kind;
 use network::Step;
@@ -63,7 +62,7 @@ fn hand_down<K: Kind>(
         return;
     };
     let t = before::<K>(net, &row[y as usize - 1], s);
-    put(row, w as usize - 1, t);
+    row[w as usize - 1] = t;
     marks[w as usize - 1] = 1;
 }
 
@@ -86,7 +85,7 @@ fn ground<K: Kind>(
     if marks[w as usize - 1] != 0 {
         return;
     }
-    put(row, w as usize - 1, K::zero());
+    row[w as usize - 1] = K::zero();
     marks[w as usize - 1] = 1;
 }
 
@@ -139,14 +138,10 @@ fn settle<K: Kind>(
     ensures kept { Kept marks.old marks.new }
     ensures done { slice_index marks.new (v - 1) ≢ 0 }
 {
-    let mut top = rise(net, up, marks, stack, v);
-    let last = stack[top];
-    ground::<K>(net, up, marks, row, last);
-    while top > 0 {
-        let y = stack[top];
-        top -= 1;
-        let w = stack[top];
-        hand_down::<K>(net, up, marks, row, w, y);
+    let top = rise(net, up, marks, stack, v);
+    ground::<K>(net, up, marks, row, stack[top]);
+    for i in (0..top).rev() {
+        hand_down::<K>(net, up, marks, row, stack[i], stack[i + 1]);
     }
 }
 

@@ -27,4 +27,4 @@ returns g c =
     (wired c.args.net.now.n (length c.args.net.now.links.now) c.args.net.now.links.now (omega arith) c.args.net.now.sound) c.reroot.ensures.still (c.carry.ensures.yes c.if-not-carry.false)
     c.args.i c.args.j c.requires.i c.requires.j c.reroot.ensures.root
     (to_linked g.K.Kind.meaning c.args.net.now.links.now c.args.i c.args.j ((c.join.ensures.labelled c.args.i c.args.j c.requires.i c.requires.j).0 c.if-rows-i.false))
-    c.get.result c.get.ensures
+    c.index-offsets-j.result c.index-offsets-j.is
