@@ -1,5 +1,5 @@
 -- What the rows hold in the end: the least offsets, or a loop below zero.
-use Rattle.std.proofs.Common.{◌≡◌, ℕ, ◌≤◌, false, List, ◌++◌, map, length, take, Some, None, Option, sym, ap, ◌∙◌, subst, subst₂, arith}
+use Rattle.std.proofs.Common.{◌≡◌, ℕ, ◌≤◌, false, List, ◌++◌, map, length, take, Ok, Err, Result, sym, ap, ◌∙◌, subst, subst₂, arith}
 use Rattle.std.proofs.lemmas.List.{length-map, take-append-le}
 use Rattle.kind.specs.Order.{Ordered}
 use Rattle.kind.specs.Meaning.{Meaning}
@@ -11,6 +11,7 @@ use Rattle.search.specs.Records.{link_of, graph_of, On, Sound}
 use Rattle.search.specs.Settled.{offset}
 use Rattle.search.specs.Written.{Written}
 use Rattle.search.proofs.Wiring.{one_graph}
+use Rattle.schedule.specs.declared.unrealisable.Unrealisable.{Unrealisable}
 use Rattle.schedule.specs.Least.{Leaves, NegativeLoop, Scheduled}
 use Rattle.schedule.specs.Rounds.{After, trail}
 use Rattle.schedule.specs.Rows.{entry, state_of, Near, Traced, Circle}
@@ -27,9 +28,9 @@ module _ {L T : Type 0} (M : Meaning L T) (records : List (Record L)) (n : ℕ) 
   g = graph M.quantities links
 
   -- the same offsets at every switch serve the same
-  same_schedule : (c d : ℕ → Q) → ((v : ℕ) → On n v → c v ≡ d v) → (row row' : List ℕ) (r : Option ℕ) → Scheduled M n links c row row' r → Scheduled M n links d row row' r
-  same_schedule c d e row row' (Some m) h = h
-  same_schedule c d e row row' None ((up, leaves), least, same) = (
+  same_schedule : (c d : ℕ → Q) → ((v : ℕ) → On n v → c v ≡ d v) → (row row' : List ℕ) (r : Result (Unit {0}) Unrealisable) → Scheduled M n links c row row' r → Scheduled M n links d row row' r
+  same_schedule c d e row row' (Err m) h = h
+  same_schedule c d e row row' (Ok _) ((up, leaves), least, same) = (
     (
       λ v a b. ap M.below (sym (e v (a, b))) ∙ up v a b,
       λ p o.
@@ -49,7 +50,7 @@ module _ {L T : Type 0} (M : Meaning L T) (records : List (Record L)) (n : ℕ) 
     pub longer_near : (k : ℕ) → Near M n k totals → Near M n k (totals ++ rest)
     longer_near = same_near M n totals (totals ++ rest) front
 
-    pub longer_schedule : (row row' : List ℕ) (r : Option ℕ) → Scheduled M n links (offset M totals) row row' r → Scheduled M n links (offset M (totals ++ rest)) row row' r
+    pub longer_schedule : (row row' : List ℕ) (r : Result (Unit {0}) Unrealisable) → Scheduled M n links (offset M totals) row row' r → Scheduled M n links (offset M (totals ++ rest)) row row' r
     longer_schedule = same_schedule (offset M totals) (offset M (totals ++ rest)) (same_offset M n totals (totals ++ rest) front)
 
   module _ (O : Ordered M.quantities M.below) (row : List T) (stamps preds : List ℕ) (after : After M links n n (state_of M row stamps preds)) (v : ℕ) (o : On n v) (h : entry stamps v ≡ n) where

@@ -1,5 +1,5 @@
 -- The least offsets that realise links, or a loop that rules out all offsets.
-use Rattle.std.specs.Prelude.{◌≡◌, ℕ, ◌≤◌, true, false, List, [], ◌∷◌, length, Option, MatchOption}
+use Rattle.std.specs.Prelude.{◌≡◌, ℕ, ◌≤◌, true, false, List, [], ◌∷◌, length, Result, MatchResult}
 use Rattle.kind.specs.Group.{Quantities}
 use Rattle.kind.specs.Meaning.{Meaning}
 use Rattle.network.specs.declared.Step.{Step}
@@ -7,6 +7,7 @@ use Rattle.network.specs.declared.Step.TheVariants.{Forward, Backward}
 use Rattle.network.specs.Graph.{Graph, Walk, end, Distinct}
 use Rattle.network.specs.Offsets.{Link, tally, at, graph, Positions}
 use Rattle.search.specs.Written.{Written}
+use Rattle.schedule.specs.declared.unrealisable.Unrealisable.{Unrealisable}
 
 -- no step goes back
 abbrev pub Onward : List Step → Type 0
@@ -46,8 +47,8 @@ module _ {L T : Type 0} (M : Meaning L T) where
   NegativeLoop links steps = Loop K links steps × (M.below (tally K (λ p. (at K links p).measured) steps) ≡ true)
 
   -- The least offsets c, and no step is written; or a loop below zero, whose steps are, so that no offsets of any sign will do.
-  abbrev pub Scheduled : ℕ → List (Link Q) → (ℕ → Q) → List ℕ → List ℕ → Option ℕ → Type 0
+  abbrev pub Scheduled : ℕ → List (Link Q) → (ℕ → Q) → List ℕ → List ℕ → Result (Unit {0}) Unrealisable → Type 0
   Scheduled n links c row row' r =
-      MatchOption r
-      (Realises n links c × Least n links c × (row' ≡ row))
-      (λ m. ((b : ℕ → Q) × Leaves links b → ⊥) × ((steps : List Step) × NegativeLoop links steps × Written row row' m steps))
+      MatchResult r
+      (λ _. Realises n links c × Least n links c × (row' ≡ row))
+      (λ e. ((b : ℕ → Q) × Leaves links b → ⊥) × ((steps : List Step) × NegativeLoop links steps × Written row row' e.steps steps))

@@ -6,11 +6,11 @@ use Rattle.schedule.proofs.least.least_offsets.Goals as goal
 pub returns : goal.returns
 returns g c =
     let M = g.K.Kind.meaning in
-    let size : c.args.n ≤ length c.solve_rows.new.totals = search (rules, overwrites) in
+    let size : c.args.net.now.n ≤ length c.solve.new.row = search (rules, overwrites) in
     record {
-      short = c.solve_rows.ensures.short;
-      near = longer_near M c.args.links.now c.args.n c.requires.sound c.solve_rows.new.totals _ size c.args.n c.solve_rows.ensures.near;
-      schedule = longer_schedule M c.args.links.now c.args.n c.requires.sound c.solve_rows.new.totals _ size c.args.steps.now c.solve_rows.new.steps c.solve_rows.result c.solve_rows.ensures.schedule;
+      short = c.solve.ensures.short;
+      near = longer_near M c.args.net.now.links.now c.args.net.now.n c.args.net.now.sound c.solve.new.row _ size c.args.net.now.n c.solve.ensures.near;
+      schedule = longer_schedule M c.args.net.now.links.now c.args.net.now.n c.args.net.now.sound c.solve.new.row _ size c.args.steps.now c.solve.new.steps c.solve.result c.solve.ensures.schedule;
       totals = search (rules, overwrites);
       numbers = search (rules, overwrites);
     }

@@ -4,12 +4,18 @@ use Rattle.schedule.proofs.round.hear.Goals as goal
 
 pub returns-then-not-falls_short : goal.returns-then-not-falls_short
 returns-then-not-falls_short g c =
-    let size : c.args.n + c.args.n ≤ length c.args.row.now = omega (arith, c.requires.sizes.0) in
-    served g.K.Kind.meaning c.args.n c.args.k c.requires.small.1 c.args.link c.args.row.now size c.requires.from c.requires.to c.requires.near c.requires.behind c.index-row-n.result c.index-row-receiver.result c.index-row-n.is
-    c.falls_short.result c.falls_short.ensures c.if-not-falls_short.true c.args.stamps.now c.args.preds.now
+    let size : c.args.net.now.n + c.args.net.now.n ≤ length c.args.row.now = omega (arith, c.requires.totals) in
+    record {
+      size = c.requires.size;
+      heard = served g.K.Kind.meaning c.args.net.now.n c.args.k c.requires.early c.args.link.now c.args.row.now size c.requires.from c.requires.to c.requires.near c.requires.behind c.index-row-net.result c.index-row-receiver.result c.index-row-net.is
+          c.falls_short.result c.falls_short.ensures c.if-not-falls_short.true c.args.rows.now.stamps.now c.args.rows.now.preds.now;
+    }
 
 pub returns : goal.returns
 returns g c =
-    let size : c.args.n + c.args.n ≤ length c.args.row.now = omega (arith, c.requires.sizes.0) in
-    raised g.K.Kind.meaning c.args.n c.args.k c.requires.small.1 c.args.link c.args.row.now size c.requires.from c.requires.to c.requires.near c.requires.behind c.index-row-n.result c.index-row-receiver.result c.index-row-n.is
-    c.falls_short.result c.falls_short.ensures c.if-not-falls_short.false c.asked.result c.asked.ensures c.args.p c.args.stamps.now c.args.preds.now
+    let size : c.args.net.now.n + c.args.net.now.n ≤ length c.args.row.now = omega (arith, c.requires.totals) in
+    record {
+      size = c.requires.size;
+      heard = raised g.K.Kind.meaning c.args.net.now.n c.args.k c.requires.early c.args.link.now c.args.row.now size c.requires.from c.requires.to c.requires.near c.requires.behind c.index-row-net.result c.index-row-receiver.result c.index-row-net.is
+          c.falls_short.result c.falls_short.ensures c.if-not-falls_short.false c.asked.result c.asked.ensures c.args.p c.args.rows.now.stamps.now c.args.rows.now.preds.now;
+    }

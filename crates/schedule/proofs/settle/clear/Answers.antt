@@ -1,23 +1,32 @@
-use Rattle.std.proofs.Common.{◌≡◌, ◌-◌, get_or, set, sym, ap, ◌∙◌, subst, inl, inr, arith}
-use Rattle.std.proofs.lemmas.List.{get_or-set_same, get_or-set_other}
+use Rattle.std.proofs.Common.{ℕ, ◌≤◌, ◌++◌, length, drop, length-append, length-take, ◌≡◌, ◌-◌, get_or, set, sym, ap, ◌∙◌, subst, inl, inr, arith}
+use Rattle.std.proofs.lemmas.List.{get_or_append_left, get_or-set_same, get_or-set_other}
 use Rattle.std.proofs.lemmas.Bool.{cases_eq}
+use Rattle.search.specs.Records.{On}
 use Rattle.schedule.proofs.Reading.{mean}
 use Rattle.schedule.proofs.settle.clear.Goals as goal
 
-pub loop-i-preserved : goal.loop-i-preserved
-loop-i-preserved g c v d h =
-    elim (cases_eq v c.loop-i.i) [
+pub loop-total-preserved : goal.loop-total-preserved
+loop-total-preserved g c v d h =
+    elim (cases_eq v c.loop-total.total-index) [
       | inl e ↦ subst (λ x. (g.K.Kind.meaning.total x ≡ g.K.Kind.meaning.quantities.zero) × g.K.Kind.meaning.within 0 x)
-          (sym (ap (λ i. get_or (set c.loop-i.row c.loop-i.i c.zero.result) i d) e ∙ get_or-set_same c.loop-i.row c.loop-i.i c.zero.result d (omega arith)))
+          (sym (ap (λ i. get_or (set c.loop-total.total-items c.loop-total.total-index c.zero.result) i d) e ∙ get_or-set_same c.loop-total.total-items c.loop-total.total-index c.zero.result d (omega arith)))
           c.zero.ensures
       | inr e ↦ subst (λ x. (g.K.Kind.meaning.total x ≡ g.K.Kind.meaning.quantities.zero) × g.K.Kind.meaning.within 0 x)
-          (sym (get_or-set_other c.loop-i.row c.loop-i.i v c.zero.result d e))
-          (c.loop-i.invariant v d (omega arith))
+          (sym (get_or-set_other c.loop-total.total-items c.loop-total.total-index v c.zero.result d e))
+          (c.loop-total.invariant v d (omega arith))
     ]
 
 pub returns : goal.returns
 returns g c =
+    let rest = drop c.args.n c.args.row.now in
+    let long : c.args.n ≤ length c.loop-total.total-items = omega (arith, c.loop-total.auto.total-items, length-take c.args.n c.args.row.now) in
+    let all : (v : ℕ) (t : g.row.K-Total.Denot) → On c.args.n v → (g.K.Kind.meaning.total (get_or (c.loop-total.total-items ++ rest) (v - 1) t) ≡ g.K.Kind.meaning.quantities.zero) × g.K.Kind.meaning.within 0 (get_or (c.loop-total.total-items ++ rest) (v - 1) t) =
+    λ v t o.
+    let e = get_or_append_left c.loop-total.total-items rest t (v - 1) (omega (arith, o.0, o.1)) in
+    let h = c.loop-total.invariant (v - 1) t (omega (arith, o.0, o.1)) in
+    (ap g.K.Kind.meaning.total e ∙ h.0, subst (g.K.Kind.meaning.within 0) (sym e) h.1)
+    in
     record {
-      means = λ v o. mean g.K.Kind.meaning c.loop-i.row v g.K.Kind.meaning.quantities.zero (omega (arith, o.0, o.1)) (λ t. (c.loop-i.invariant (v - 1) t (omega (arith, o.0, o.1))).0);
-      near = λ v o t. (c.loop-i.invariant (v - 1) t (omega (arith, o.0, o.1))).1;
+      means = λ v o. mean g.K.Kind.meaning (c.loop-total.total-items ++ rest) v g.K.Kind.meaning.quantities.zero (omega (arith, o.0, o.1, length-append c.loop-total.total-items rest)) (λ t. (all v t o).0);
+      near = λ v o t. (all v t o).1;
     }
