@@ -27,8 +27,7 @@ pub(crate) fn place_of(step: Step) -> usize
     ensures { result ≡ place step }
 {
     match step {
-        Step::Forward(p) => p,
-        Step::Backward(p) => p,
+        Step::Forward(p) | Step::Backward(p) => p,
     }
 }
 

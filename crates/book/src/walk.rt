@@ -48,10 +48,8 @@ impl<'a, K: Kind> Book<'a, K> {
             measured: K::zero(),
             wanted: K::zero(),
         };
-        let mut i = 0;
-        while i < words.len() {
-            trip = self.advance(i, trip, words[i])?;
-            i += 1;
+        for (done, &word) in words.iter().enumerate() {
+            trip = self.advance(done, trip, word)?;
         }
         Ok((trip.measured, trip.wanted))
     }
