@@ -13,9 +13,7 @@ impl<'a, K: Kind> Book<'a, K> {
         ensures kept { Kept result self.old.store self.new.store }
         ensures records { Untouched self.old.store self.new.store }
     {
-        if self.store.issued {
-            return Err(Refusal::Issued);
-        }
+        self.check_not_issued()?;
         self.store.issued = true;
         Ok(())
     }

@@ -4,7 +4,7 @@ ghost use Rattle.calls.specs.Verdicts.{RealiseVerdict, LoopReadsBack};
 ghost use Rattle.book.specs.Memory.{state_of, rows_of, shown_offsets, shown, Answered, RowsLeft, Near};
 
 use crate::book::Book;
-use crate::link::is_enough;
+use crate::check::check_rows;
 use crate::store::Refused;
 use calls::Refusal;
 use kind::Kind;
@@ -22,18 +22,10 @@ impl<'a, K: Kind> Book<'a, K> {
         ensures reach { Near K.Kind.meaning self.now.store.n result totals.new }
     {
         if !K::is_ordered() {
-            return Err(Refused {
-                refusal: Refusal::Unordered,
-                shown: 0,
-            });
+            return Err(Refusal::Unordered.into());
         }
         let n = self.store.n as usize;
-        if !is_enough(n, totals.len(), numbers.len(), steps.len()) {
-            return Err(Refused {
-                refusal: Refusal::ShortRow,
-                shown: 0,
-            });
-        }
+        check_rows(n, totals.len(), numbers.len(), steps.len())?;
         match least_offsets::<K>(
             &self.store.links[0..self.store.count],
             n,

@@ -16,10 +16,8 @@ impl<'a, K: Kind> Book<'a, K> {
         ensures kept { Kept result self.old.store self.new.store }
         ensures records { Untouched self.old.store self.new.store }
     {
-        if self.store.issued {
-            return Err(Refusal::Issued);
-        }
-        if n < 1 || n > MAX_SWITCHES {
+        self.check_not_issued()?;
+        if !(1..=MAX_SWITCHES).contains(&n) {
             return Err(Refusal::BadSize);
         }
         if self.store.reaches_past(n) {

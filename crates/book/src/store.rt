@@ -13,6 +13,14 @@ pub struct Refused {
     pub shown: usize,
 }
 
+impl From<Refusal> for Refused {
+    ghost from_gives = { λ e r. r ≡ record { refusal = e; shown = 0 } };
+
+    fn from(refusal: Refusal) -> Refused {
+        Refused { refusal, shown: 0 }
+    }
+}
+
 // A book has room for at most so many links.
 const MAX_LINKS: usize = 8192;
 

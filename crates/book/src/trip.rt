@@ -23,6 +23,10 @@ pub struct Leg<T> {
     pub wanted: T,
 }
 
+// A word names the step over the p-th link by FORWARD + p or BACKWARD + p.
+const FORWARD: u32 = 0xA000_0000;
+const BACKWARD: u32 = 0xB000_0000;
+
 pub(crate) fn place_of(step: Step) -> usize
     ensures { result ≡ place step }
 {
@@ -35,21 +39,18 @@ pub(crate) fn read_step(word: u32, count: usize) -> Option<Step>
     requires { count ≤ 8192 }
     ensures { Named count word result }
 {
-    if word >= 0xB000_0000 {
-        let p = (word - 0xB000_0000) as usize;
-        if p < 1 || p > count {
-            return None;
-        }
-        return Some(Step::Backward(p));
-    }
-    if word < 0xA000_0000 {
+    let step = if word >= BACKWARD {
+        Step::Backward((word - BACKWARD) as usize)
+    } else if word >= FORWARD {
+        Step::Forward((word - FORWARD) as usize)
+    } else {
         return None;
+    };
+    if (1..=count).contains(&place_of(step)) {
+        Some(step)
+    } else {
+        None
     }
-    let p = (word - 0xA000_0000) as usize;
-    if p < 1 || p > count {
-        return None;
-    }
-    Some(Step::Forward(p))
 }
 
 pub(crate) fn pass<K: Kind>(step: Step, link: Link<K::Latency>) -> Leg<K::Total>
