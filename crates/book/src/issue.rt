@@ -1,4 +1,3 @@
-ghost use Rattle.std.specs.Prelude.{◌≡◌};
 ghost use Rattle.calls.specs.State.{ISSUE, RECALL};
 ghost use Rattle.book.specs.Memory.{plain, Answered, Untouched, Kept};
 

@@ -1,5 +1,5 @@
-ghost use Rattle.std.specs.Prelude.{◌≡◌, ◌*◌, ◌<◌, ◌≤◌, true, [], ◌∷◌, ◌++◌, length, take, drop, IfSome, MatchResult, slice_set};
-ghost use Rattle.calls.specs.State.{LINK, Inside, Enough, First};
+ghost use Rattle.std.specs.Prelude.{◌≡◌, ◌*◌, ◌<◌, ◌≤◌, [], ◌∷◌, ◌++◌, length, take, drop, IfSome, MatchResult, slice_set};
+ghost use Rattle.calls.specs.State.{LINK, First};
 ghost use Rattle.calls.specs.Calls.{checks, holding};
 ghost use Rattle.calls.specs.Verdicts.{Ready, LinkVerdict, ReadsBack};
 ghost use Rattle.search.specs.Records.{link_of, On};

@@ -1,4 +1,4 @@
-ghost use Rattle.std.specs.Prelude.{◌≡◌, ◌-◌, ◌*◌, List, IfOk};
+ghost use Rattle.std.specs.Prelude.{◌-◌, ◌*◌, List, IfOk};
 ghost use Rattle.calls.specs.State.{Call, Answer, OFFSET};
 ghost use Rattle.calls.specs.Calls.{Ran};
 ghost use Rattle.calls.specs.Verdicts.{OffsetVerdict};

@@ -1,6 +1,6 @@
-ghost use Rattle.std.specs.Prelude.{◌≡◌, ◌*◌, take};
+ghost use Rattle.std.specs.Prelude.{take};
 ghost use Rattle.calls.specs.State.{OFFSETS};
-ghost use Rattle.book.specs.Memory.{state_of, rows_of, row_answer, Answered, RowsUsed, Near};
+ghost use Rattle.book.specs.Memory.{rows_of, row_answer, Answered, RowsUsed, Near};
 
 use crate::book::Book;
 use crate::check::check_rows;

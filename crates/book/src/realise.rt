@@ -1,4 +1,4 @@
-ghost use Rattle.std.specs.Prelude.{◌≡◌, ◌*◌, ◌≤◌, length, take};
+ghost use Rattle.std.specs.Prelude.{take};
 ghost use Rattle.calls.specs.State.{REALISE};
 ghost use Rattle.calls.specs.Verdicts.{RealiseVerdict, LoopReadsBack};
 ghost use Rattle.book.specs.Memory.{state_of, rows_of, shown_offsets, shown, Answered, RowsLeft, Near};

@@ -1,4 +1,4 @@
-ghost use Rattle.std.specs.Prelude.{◌≡◌, ℕ, ◌+◌, ◌-◌, ◌<◌, ◌≤◌, true, false, ◌++◌, length, drop, slice_index_or, slice_set};
+ghost use Rattle.std.specs.Prelude.{◌≡◌, ◌+◌, ◌-◌, ◌<◌, ◌≤◌, ◌++◌, length, drop, slice_index_or, slice_set, MatchBool};
 ghost use Rattle.std.specs.List.{remove};
 ghost use Rattle.book.specs.Memory.{records, capacity_of};
 ghost use Rattle.book.specs.Search.{Past, Joins, Seen, Located};
@@ -43,9 +43,9 @@ impl<'a, L: Copy> Store<'a, L> {
     }
 
     pub(crate) fn is_full(&self) -> bool
-        ensures { elim result [ true ↦ capacity_of self.now ≤ self.now.count | false ↦ self.now.count < capacity_of self.now ] }
+        ensures { MatchBool result (capacity_of self.now ≤ self.now.count) (self.now.count < capacity_of self.now) }
     {
-        self.count >= self.links.len() || self.count >= MAX_LINKS
+        self.count >= self.links.len().min(MAX_LINKS)
     }
 
     pub(crate) fn get(&self, at: usize) -> Link<L>

@@ -25,6 +25,7 @@ pub struct Leg<T> {
 
 // A word names the step over the p-th link by FORWARD + p or BACKWARD + p.
 const FORWARD: u32 = 0xA000_0000;
+
 const BACKWARD: u32 = 0xB000_0000;
 
 pub(crate) fn place_of(step: Step) -> usize
@@ -56,22 +57,20 @@ pub(crate) fn read_step(word: u32, count: usize) -> Option<Step>
 pub(crate) fn pass<K: Kind>(step: Step, link: Link<K::Latency>) -> Leg<K::Total>
     ensures { LegOf K.Kind.meaning step link result }
 {
-    let m = K::of(&link.measured);
-    let w = K::of(&link.wanted);
+    let measured = K::of(&link.measured);
+    let wanted = K::of(&link.wanted);
     match step {
         Step::Forward(_) => Leg {
             start: link.from,
             end: link.to,
-            measured: m,
-            wanted: w,
+            measured,
+            wanted,
         },
-        Step::Backward(_) => {
-            Leg {
-                start: link.to,
-                end: link.from,
-                measured: K::negated(&m),
-                wanted: K::negated(&w),
-            }
-        }
+        Step::Backward(_) => Leg {
+            start: link.to,
+            end: link.from,
+            measured: K::negated(&measured),
+            wanted: K::negated(&wanted),
+        },
     }
 }

@@ -57,4 +57,4 @@ returns-clause-call g c =
     let v = c.in_default.ensures.verdict in
     let rows = rows_of c.args.totals.now c.args.numbers.now c.args.steps.now in
     answered M s c.append.new.self.store (LINK l rows) done (fitting M (state_of M s) l rows c.in_ok-check_link.ensures.0 v.0)
-      (subst (Next M (state_of M s) (LINK l rows) done) (sym c.append.ensures.state) (by_link l rows))
+    (subst (Next M (state_of M s) (LINK l rows) done) (sym c.append.ensures.state) (by_link l rows))
