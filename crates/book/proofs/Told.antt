@@ -1,6 +1,7 @@
 -- The steps that a row tells are those that were written.
 use Rattle.std.proofs.Common.{◌≡◌, ℕ, ◌+◌, ◌-◌, ◌≤◌, cond, ltb, List, [], ◌∷◌, ◌++◌, map, length, take, Some, None, Ok, Err, Result, sym, refl, ap, ◌∙◌, arith}
 use Rattle.std.proofs.lemmas.Bool.{lt-ltb, le-ltb}
+use Rattle.std.proofs.lemmas.List.{length-take}
 use Rattle.kind.specs.Group.{Quantities}
 use Rattle.calls.specs.declared.Refusal.TheVariants.{Contradicts, NegativeLoop}
 use Rattle.calls.specs.State.{refused}
@@ -30,6 +31,10 @@ decode_word (Backward p) h =
 pub read_back : (g : Graph) (A : ℕ → Type 0) → ((p : ℕ) → A p → p ≤ 8192) → (i : ℕ) (ss : List Step) (j : ℕ) → Walk g A i ss j → steps_of (map word ss) ≡ ss
 read_back g A f i [] j w = refl
 read_back g A f i (s ∷ ss) j (e, a, w) = ap (λ o. one o ++ steps_of (map word ss)) (decode_word s (f (place s) a)) ∙ ap (λ ts. s ∷ ts) (read_back g A f (end g s) ss j w)
+
+-- a refusal shows fewer steps than a walk may have words
+pub shown_few : {X : Type 0} (r : Result X Refused) (row : List ℕ) (n : ℕ) → shown r ≤ n → n ≤ 1024 → length (take (shown r) row) ≤ 65536
+shown_few r row n few small = omega (arith, length-take (shown r) row)
 
 module _ (K : Quantities) (links : List (Link K.Q)) (l : Link K.Q) (row row' : List ℕ) (m : ℕ) (ss : List Step) (few : length links ≤ 8192) (b : WayBack K links l ss) (w : Written row row' m ss) where
   pub told : steps_of (take m row') ≡ ss

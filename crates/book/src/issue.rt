@@ -6,7 +6,7 @@ use calls::Refusal;
 use kind::Kind;
 
 impl<'a, K: Kind> Book<'a, K> {
-    // ISSUE: marks the book.
+    /// ISSUE: marks the book.
     pub fn issue(&mut self) -> Result<(), Refusal>
         ensures call { Answered K.Kind.meaning self.old.store ISSUE (plain result) self.new.store }
         ensures kept { Kept result self.old.store self.new.store }
@@ -17,7 +17,7 @@ impl<'a, K: Kind> Book<'a, K> {
         Ok(())
     }
 
-    // RECALL: takes the mark away.
+    /// RECALL: takes the mark away.
     pub fn recall(&mut self) -> Result<(), Refusal>
         ensures call { Answered K.Kind.meaning self.old.store RECALL (plain result) self.new.store }
         ensures kept { Kept result self.old.store self.new.store }

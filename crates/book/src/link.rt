@@ -78,6 +78,7 @@ impl<'a, K: Kind> Book<'a, K> {
         self.store.put(link);
     }
 
+    // The call itself; `link` adds what its answer tells.
     fn enter(
         &mut self,
         new: Link<K::Latency>,
@@ -101,8 +102,8 @@ impl<'a, K: Kind> Book<'a, K> {
         Ok(())
     }
 
-    // LINK: a new link stands last, if offsets carry it with those that stand. If none do, the refusal shows the
-    // path of joining links that leads from its receiver back to its sender.
+    /// LINK: a new link stands last, if offsets carry it with those that stand. If none do, the refusal shows the
+    /// path of joining links that leads from its receiver back to its sender.
     pub fn link(
         &mut self,
         new: Link<K::Latency>,

@@ -11,6 +11,7 @@ use kind::Kind;
 use search::{Between, offset_between};
 
 impl<'a, K: Kind> Book<'a, K> {
+    // The call itself; `offset` adds what its answer tells.
     fn difference(
         &self,
         i: u32,
@@ -40,7 +41,7 @@ impl<'a, K: Kind> Book<'a, K> {
         }
     }
 
-    // OFFSET: what the offset of j is more than that of i, in all offsets that carry the standing links.
+    /// OFFSET: what the offset of j is more than that of i, in all offsets that carry the standing links.
     pub fn offset(
         &self,
         i: u32,

@@ -9,8 +9,8 @@ use kind::Kind;
 use search::grounded_offsets;
 
 impl<'a, K: Kind> Book<'a, K> {
-    // OFFSETS: offsets that carry all standing links, zero at the lowest switch of each connected group, in the first n
-    // totals.
+    /// OFFSETS: offsets that carry all standing links, zero at the lowest switch of each connected group, in the first n
+    /// totals.
     pub fn offsets(
         &self,
         totals: &mut [K::Total],

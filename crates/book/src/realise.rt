@@ -11,6 +11,7 @@ use kind::Kind;
 use schedule::least_offsets;
 
 impl<'a, K: Kind> Book<'a, K> {
+    // The call itself; `realise` adds what its answer tells.
     fn schedule(
         &self,
         totals: &mut [K::Total],
@@ -41,8 +42,8 @@ impl<'a, K: Kind> Book<'a, K> {
         }
     }
 
-    // REALISE: the least offsets, none below zero, under which no standing link's measured latency is below zero, in
-    // the first n totals. If there are none, the refusal shows a loop whose measured total is below zero.
+    /// REALISE: the least offsets, none below zero, under which no standing link's measured latency is below zero, in
+    /// the first n totals. If there are none, the refusal shows a loop whose measured total is below zero.
     pub fn realise(
         &self,
         totals: &mut [K::Total],

@@ -9,7 +9,7 @@ use kind::Kind;
 const MAX_SWITCHES: u32 = 1024;
 
 impl<'a, K: Kind> Book<'a, K> {
-    // SIZE: sets the number of switches.
+    /// SIZE: sets the number of switches.
     pub fn size(&mut self, n: u32) -> Result<(), Refusal>
         ensures call { Answered K.Kind.meaning self.old.store (SIZE n) (plain result) self.new.store }
         ensures kept { Kept result self.old.store self.new.store }

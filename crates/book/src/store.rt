@@ -6,13 +6,14 @@ ghost use Rattle.book.specs.Search.{Past, Joins, Seen, Located};
 use calls::Refusal;
 use search::Link;
 
-// Why a call was turned down, and how many step words stand at the start of the step row.
+/// Why a call was turned down, and how many step words stand at the start of the step row.
 #[derive(Clone, Copy)]
 pub struct Refused {
     pub refusal: Refusal,
     pub shown: usize,
 }
 
+// A refusal by itself shows no steps.
 impl From<Refusal> for Refused {
     ghost from_gives = { λ e r. r ≡ record { refusal = e; shown = 0 } };
 
@@ -24,6 +25,7 @@ impl From<Refusal> for Refused {
 // A book has room for at most so many links.
 const MAX_LINKS: usize = 8192;
 
+// The row, of which the first `count` records stand; the ones behind them are the caller's still.
 #[derive(Drop)]
 pub struct Store<'a, L> {
     pub links: &'a mut [Link<L>],

@@ -8,7 +8,7 @@ use calls::Refusal;
 use kind::Kind;
 
 impl<'a, K: Kind> Book<'a, K> {
-    // STRIKE: takes out the standing link between the two switches; the later ones move up by one.
+    /// STRIKE: takes out the standing link between the two switches; the later ones move up by one.
     pub fn strike(&mut self, from: u32, to: u32) -> Result<(), Refusal>
         ensures call { Answered K.Kind.meaning self.old.store (STRIKE from to) (plain result) self.new.store }
         ensures kept { Kept result self.old.store self.new.store }

@@ -7,7 +7,7 @@ use network::Step;
 use search::Link;
 
 // Where a walk is, and what it comes to so far.
-#[derive(Clone, Copy)]
+#[derive(Clone, Copy, Debug, PartialEq, Eq)]
 pub struct Trip<T> {
     pub at: u32,
     pub measured: T,
@@ -15,7 +15,7 @@ pub struct Trip<T> {
 }
 
 // One step over a link: where it begins and ends, and what it adds.
-#[derive(Clone, Copy)]
+#[derive(Clone, Copy, Debug, PartialEq, Eq)]
 pub struct Leg<T> {
     pub start: u32,
     pub end: u32,
@@ -23,11 +23,12 @@ pub struct Leg<T> {
     pub wanted: T,
 }
 
-// A word names the step over the p-th link by FORWARD + p or BACKWARD + p.
+// Added to a link's position, a step's direction makes the word that names the step.
 const FORWARD: u32 = 0xA000_0000;
 
 const BACKWARD: u32 = 0xB000_0000;
 
+// The position of the link that the step passes.
 pub(crate) fn place_of(step: Step) -> usize
     ensures { result ≡ place step }
 {
@@ -36,6 +37,7 @@ pub(crate) fn place_of(step: Step) -> usize
     }
 }
 
+// The step that the word names, where a link stands at its position.
 pub(crate) fn read_step(word: u32, count: usize) -> Option<Step>
     requires { count ≤ 8192 }
     ensures { Named count word result }
@@ -47,13 +49,10 @@ pub(crate) fn read_step(word: u32, count: usize) -> Option<Step>
     } else {
         return None;
     };
-    if (1..=count).contains(&place_of(step)) {
-        Some(step)
-    } else {
-        None
-    }
+    (1..=count).contains(&place_of(step)).then_some(step)
 }
 
+// What the step adds to a walk that comes to the link.
 pub(crate) fn pass<K: Kind>(step: Step, link: Link<K::Latency>) -> Leg<K::Total>
     ensures { LegOf K.Kind.meaning step link result }
 {

@@ -1,9 +1,9 @@
-use Rattle.std.proofs.Common.{◌≡◌, ◌-◌, ◌≤◌, length, get_or, sym, refl, ap, ◌∙◌, inl, inr, arith}
+use Rattle.std.proofs.Common.{◌≡◌, ◌-◌, ◌≤◌, length, get_or, sym, refl, ap, ◌∙◌, inr, arith}
 use Rattle.network.specs.Graph.{start, place}
 use Rattle.book.specs.Memory.{state_of, records}
 use Rattle.calls.specs.Standing.{plan}
 use Rattle.book.specs.Walking.{signed}
-use Rattle.book.proofs.Walks.{stands_upto, upto_stands, link_is, near_is, far_is, walk_on}
+use Rattle.book.proofs.Walks.{stands_upto, link_is, near_is, far_is, walk_on}
 use Rattle.book.proofs.book.Book.advance.Goals as goal
 use Rattle.book.proofs.book.Book.advance.Goals.{else-done-gt0-via-then-done-gt0+else-leg-trip, else-done-gt0-via-else-done-gt0}
 

@@ -9,7 +9,7 @@ use Rattle.search.specs.Records.{link_of}
 use Rattle.book.specs.Memory.{state_of, rows_of}
 use Rattle.book.proofs.Promise.{answered, refuses}
 use Rattle.book.proofs.Told.{told, words_told}
-use Rattle.book.proofs.Walks.{standing_count}
+use Rattle.book.proofs.Walks.{few_links}
 use Rattle.book.proofs.book.Book.enter.Goals as goal
 
 pub returns-in_err-check_link-clause-call : goal.returns-in_err-check_link-clause-call
@@ -27,7 +27,7 @@ returns-in-Some g c =
     let row' = c.judge.new.steps in
     let m = c.in-Some.shown in
     let rows = rows_of c.args.totals.now c.args.numbers.now c.args.steps.now in
-    let few : length (state_of M s).links ≤ 8192 = omega (arith, standing_count M s c.args.self.now.held.0, c.args.self.now.held.1) in
+    let few = few_links M s c.args.self.now.held in
     let e = told M.quantities (state_of M s).links l c.args.steps.now row' m v.1.0 few v.1.1 v.1.2 in
     let enough = ready.enough in
     let n : m ≤ s.n = c.in-Some.ensures.short in

@@ -1,6 +1,5 @@
-use Rattle.std.proofs.Common.{◌≡◌, ◌-◌, ◌≤◌, map, length, take, subst, arith}
-use Rattle.std.proofs.lemmas.List.{length-take-le}
-use Rattle.search.specs.Records.{Sound, link_of}
+use Rattle.std.proofs.Common.{◌≡◌, ◌-◌, map, take, subst, arith}
+use Rattle.search.specs.Records.{link_of}
 use Rattle.search.specs.Verdict.{Judged}
 use Rattle.book.proofs.book.Book.judge.Goals as goal
 

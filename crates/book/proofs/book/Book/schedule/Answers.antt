@@ -12,7 +12,7 @@ use Rattle.schedule.specs.Least.{Scheduled}
 use Rattle.book.specs.Memory.{state_of, rows_of}
 use Rattle.book.proofs.Promise.{answered}
 use Rattle.book.proofs.Told.{walk_told, walk_words}
-use Rattle.book.proofs.Walks.{standing_count}
+use Rattle.book.proofs.Walks.{few_links}
 use Rattle.book.proofs.book.Book.schedule.Goals as goal
 
 pub returns-then-not-is_ordered-clause-call : goal.returns-then-not-is_ordered-clause-call
@@ -58,7 +58,7 @@ returns-in-Some g c =
     let v = subst (λ k. Scheduled M s.n (map (link_of M) (take k s.links.now)) (offset M c.least_offsets.new.totals) row row' (Some m)) q e.schedule in
     let ss = v.1.0 in
     let loop = v.1.1.0 in
-    let few : length (state_of M s).links ≤ 8192 = omega (arith, standing_count M s c.args.self.now.held.0, c.args.self.now.held.1) in
+    let few = few_links M s c.args.self.now.held in
     let told = walk_told M.quantities (state_of M s).links loop.0 loop.0 row row' m ss few loop.1 v.1.2 in
     let A : Asked M (state_of M s) rows = record { ordered = sym c.is_ordered.ensures ∙ c.if-not-is_ordered.false; enough = c.in_ok-check_rows.ensures } in
     let n : m ≤ s.n = e.short in
