@@ -7,7 +7,7 @@ use calls::Refusal;
 use search::Link;
 
 /// Why a call was turned down, and how many step words stand at the start of the step row.
-#[derive(Clone, Copy)]
+#[derive(Clone, Copy, Debug, PartialEq, Eq)]
 pub struct Refused {
     pub refusal: Refusal,
     pub shown: usize,

@@ -8,7 +8,7 @@ ghost use Rattle.network.specs.Theorems.{Theory};
 use kind::Kind;
 
 // One step of a walk: over the link at a position, from its sender to its receiver, or back.
-#[derive(Clone, Copy)]
+#[derive(Clone, Copy, Debug, PartialEq, Eq)]
 pub enum Step {
     Forward(usize),
     Backward(usize),
