@@ -33,12 +33,6 @@ module _ {L T : Type 0} (M : Meaning L T) where
   pub few_links : (s : Store L) → Held s → length (state_of M s).links ≤ 8192
   few_links s h = omega (arith, standing_count s h.0, h.1)
 
-  pub upto_stands : (s : Store L) → s.count ≤ length s.links.now → (p : ℕ) → Standing M.quantities (state_of M s) p → Upto s.count p
-  upto_stands s h p u =
-      let a = length-map (records s) (link_of M) in
-      let b = length-take-le s.count s.links.now h in
-      (u.0, omega (arith, u.1))
-
   -- the record at a position means the link there
   pub link_is : (s : Store L) (p : ℕ) → Standing M.quantities (state_of M s) p → (r : Link L) → ((d : Link L) → r ≡ get_or (records s) (p - 1) d) → link M.quantities (state_of M s) p ≡ link_of M r
   link_is s zero u r h = absurd (omega (arith, u.0))
