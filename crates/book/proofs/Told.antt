@@ -1,6 +1,7 @@
 -- The steps that a row tells are those that were written.
-use Rattle.std.proofs.Common.{◌≡◌, ℕ, ◌+◌, ◌-◌, ◌≤◌, cond, ltb, List, [], ◌∷◌, ◌++◌, map, length, take, Some, None, Ok, Err, Result, sym, refl, ap, ◌∙◌, arith}
-use Rattle.std.proofs.lemmas.Bool.{lt-ltb, le-ltb}
+use Rattle.std.proofs.Common.{◌≡◌, ℕ, ◌≤◌, List, [], ◌∷◌, ◌++◌, map, length, take, Some, Ok, Err, Result, sym, refl, ap, ◌∙◌, arith}
+use Rattle.std.proofs.lemmas.Bool.Decides.{nat_tests}
+use Rattle.std.proofs.lemmas.List.{length-take}
 use Rattle.kind.specs.Group.{Quantities}
 use Rattle.calls.specs.declared.Refusal.TheVariants.{Contradicts, NegativeLoop}
 use Rattle.calls.specs.State.{refused}
@@ -18,18 +19,16 @@ use Rattle.search.specs.Written.{Written}
 use Rattle.search.specs.Verdict.{WayBack}
 
 decode_word : (s : Step) → place s ≤ 8192 → decode (word s) ≡ Some s
-decode_word (Forward p) h =
-    ap (λ b. cond b None (cond (ltb (0xA000_0000 + p) 0xB000_0000) (Some (Forward (0xA000_0000 + p - 0xA000_0000))) (Some (Backward (0xA000_0000 + p - 0xB000_0000))))) (le-ltb (0xA000_0000 + p) 0xA000_0000 (omega arith))
-    ∙ ap (λ b. cond b (Some (Forward (0xA000_0000 + p - 0xA000_0000))) (Some (Backward (0xA000_0000 + p - 0xB000_0000)))) (lt-ltb (0xA000_0000 + p) 0xB000_0000 (omega arith))
-    ∙ ap (λ q. Some (Forward q)) (omega arith)
-decode_word (Backward p) h =
-    ap (λ b. cond b None (cond (ltb (0xB000_0000 + p) 0xB000_0000) (Some (Forward (0xB000_0000 + p - 0xA000_0000))) (Some (Backward (0xB000_0000 + p - 0xB000_0000))))) (le-ltb (0xB000_0000 + p) 0xA000_0000 (omega arith))
-    ∙ ap (λ b. cond b (Some (Forward (0xB000_0000 + p - 0xA000_0000))) (Some (Backward (0xB000_0000 + p - 0xB000_0000)))) (le-ltb (0xB000_0000 + p) 0xB000_0000 (omega arith))
-    ∙ ap (λ q. Some (Backward q)) (omega arith)
+decode_word (Forward p) h = grind (arith, nat_tests)
+decode_word (Backward p) h = grind (arith, nat_tests)
 
 pub read_back : (g : Graph) (A : ℕ → Type 0) → ((p : ℕ) → A p → p ≤ 8192) → (i : ℕ) (ss : List Step) (j : ℕ) → Walk g A i ss j → steps_of (map word ss) ≡ ss
 read_back g A f i [] j w = refl
 read_back g A f i (s ∷ ss) j (e, a, w) = ap (λ o. one o ++ steps_of (map word ss)) (decode_word s (f (place s) a)) ∙ ap (λ ts. s ∷ ts) (read_back g A f (end g s) ss j w)
+
+-- a refusal shows fewer steps than a walk may have words
+pub shown_few : {X : Type 0} (r : Result X Refused) (row : List ℕ) (n : ℕ) → shown r ≤ n → n ≤ 1024 → length (take (shown r) row) ≤ 65536
+shown_few r row n few small = omega (arith, length-take (shown r) row)
 
 module _ (K : Quantities) (links : List (Link K.Q)) (l : Link K.Q) (row row' : List ℕ) (m : ℕ) (ss : List Step) (few : length links ≤ 8192) (b : WayBack K links l ss) (w : Written row row' m ss) where
   pub told : steps_of (take m row') ≡ ss
@@ -45,12 +44,12 @@ module _ (K : Quantities) (links : List (Link K.Q)) (l : Link K.Q) (row row' : L
 -- the words of a refusal that shows steps are those of the steps
 pub shown_words : {Q : Type 0} (r : Result (Unit {0}) Refused) (row : List ℕ) → take (shown r) row ≡ map word (steps_of (take (shown r) row))
     → (ss : List Step) → shown_answer {Q = Q} r row ≡ refused Contradicts ss → take (shown r) row ≡ map word ss
-shown_words (Ok u) row w ss e = let z : ◌≡◌ {A = ℕ} 0 1 = cc in absurd (omega arith)
+shown_words (Ok u) row w ss e = absurd (cc)
 shown_words (Err x) row w ss e = let q : steps_of (take x.shown row) ≡ ss = cc in w ∙ ap (map word) q
 
 pub shown_loop : {L T : Type 0} (M : Meaning L T) (r : Result (Unit {0}) Refused) (ts : List T) (row : List ℕ) → take (shown r) row ≡ map word (steps_of (take (shown r) row))
     → (ss : List Step) → shown_offsets M r ts row ≡ refused NegativeLoop ss → take (shown r) row ≡ map word ss
-shown_loop M (Ok u) ts row w ss e = let z : ◌≡◌ {A = ℕ} 0 1 = cc in absurd (omega arith)
+shown_loop M (Ok u) ts row w ss e = absurd (cc)
 shown_loop M (Err x) ts row w ss e = let q : steps_of (take x.shown row) ≡ ss = cc in w ∙ ap (map word) q
 
 -- the steps of a walk over standing links, written as words, are told by the row

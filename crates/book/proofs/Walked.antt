@@ -1,7 +1,6 @@
 -- The right answers to a walk.
 use Rattle.std.proofs.Common.{◌≡◌, ℕ, suc, ◌+◌, ◌<◌, ◌≤◌, List, [], ◌∷◌, ◌++◌, length, get_or, take, drop, Err, sym, refl, ap, ◌∙◌, subst, inl, inr, ⊎_elim, arith}
-use lib.ListN.{length-map}
-use Rattle.std.proofs.lemmas.List.{length-take-le, take-append-drop, drop_more}
+use Rattle.std.proofs.lemmas.List.{take-append-drop, drop_more}
 use Rattle.kind.specs.Group.{Quantities}
 use Rattle.kind.specs.Meaning.{Meaning}
 use Rattle.network.specs.Graph.{end}
@@ -12,10 +11,10 @@ use Rattle.book.specs.declared.trip.Trip.{Trip}
 use Rattle.calls.specs.State.{State, WALK, totals, refused}
 use Rattle.calls.specs.Standing.{plan, ReadAs, Stops, Nowhere, Elsewhere, measured, wanted}
 use Rattle.calls.specs.Calls.{Right, yields, walked, by_walk}
-use Rattle.search.specs.Records.{link_of}
-use Rattle.book.specs.Memory.{state_of, records, Held, Answered}
+use Rattle.book.specs.Memory.{state_of, Held, Answered}
 use Rattle.book.specs.Walking.{Walked, Stepped}
 use Rattle.book.proofs.Promise.{answered, refuses}
+use Rattle.book.proofs.Walks.{few_links}
 use Rattle.calls.proofs.Reading.{nowhere_not, elsewhere_not, clash}
 
 read_length : (K : Quantities) (s : State K.Q) (ws : List ℕ) (i : ℕ) (ss : List Step) (j : ℕ) → ReadAs K s ws i ss j → length ss ≡ length ws
@@ -26,7 +25,7 @@ read_length K s (w ∷ ws) i (x ∷ ss) j e = ap suc (read_length K s ws (end (p
 
 module _ {L T : Type 0} (M : Meaning L T) (s : Store L) (held : Held s) (words : List ℕ) (few : length words ≤ 65536) where
   small : length (state_of M s).links ≤ 8192
-  small = let a = length-map (records s) (link_of M) in let b = length-take-le s.count s.links.now held.0 in omega arith
+  small = few_links M s held
 
   pub stopped : (i : ℕ) → i < length words → (x : Trip T) → Walked M (state_of M s) (take i words) x → (e : Refusal) → Stepped M (state_of M s) (take i words) x (get_or words i 0) (Err e) → Answered M s (WALK words) (refused e []) s
   stopped i lt x k e f =

@@ -1,7 +1,7 @@
 -- A walk that grows by one word.
-use Rattle.std.proofs.Common.{◌≡◌, ℕ, zero, suc, ◌+◌, ◌-◌, ◌≤◌, List, [], ◌∷◌, ◌++◌, length, get_or, sym, refl, ap, ◌∙◌, subst, arith}
+use Rattle.std.proofs.Common.{◌≡◌, ℕ, zero, suc, ◌+◌, ◌-◌, ◌<◌, ◌≤◌, List, [], ◌∷◌, ◌++◌, length, get_or, sym, refl, ap, ◌∙◌, subst, arith}
 use lib.ListN.{length-map}
-use Rattle.std.proofs.lemmas.List.{length-take-le, length_push}
+use Rattle.std.proofs.lemmas.List.{length-take-le, length_push, get_or-map}
 use Rattle.kind.specs.Meaning.{Meaning}
 use Rattle.network.specs.Graph.{Upto, place, start, end}
 use Rattle.network.specs.Offsets.{tally}
@@ -13,9 +13,8 @@ use Rattle.book.specs.declared.trip.Trip.{Trip}
 use Rattle.calls.specs.State.{State}
 use Rattle.calls.specs.Standing.{link, Standing, plan, Reads, ReadAs}
 use Rattle.search.specs.Records.{link_of}
-use Rattle.book.specs.Memory.{state_of, records}
+use Rattle.book.specs.Memory.{state_of, records, Held}
 use Rattle.book.specs.Walking.{signed, near, far, Walked}
-use Rattle.book.proofs.Places.{map_at}
 
 module _ {L T : Type 0} (M : Meaning L T) where
   abbrev Q : Type 0
@@ -31,20 +30,17 @@ module _ {L T : Type 0} (M : Meaning L T) where
   pub standing_count : (s : Store L) → s.count ≤ length s.links.now → length (state_of M s).links ≡ s.count
   standing_count s h = length-map (records s) (link_of M) ∙ length-take-le s.count s.links.now h
 
-  pub upto_stands : (s : Store L) → s.count ≤ length s.links.now → (p : ℕ) → Standing M.quantities (state_of M s) p → Upto s.count p
-  upto_stands s h p u =
-      let a = length-map (records s) (link_of M) in
-      let b = length-take-le s.count s.links.now h in
-      (u.0, omega (arith, u.1))
+  pub few_links : (s : Store L) → Held s → length (state_of M s).links ≤ 8192
+  few_links s h = omega (arith, standing_count s h.0, h.1)
 
   -- the record at a position means the link there
   pub link_is : (s : Store L) (p : ℕ) → Standing M.quantities (state_of M s) p → (r : Link L) → ((d : Link L) → r ≡ get_or (records s) (p - 1) d) → link M.quantities (state_of M s) p ≡ link_of M r
   link_is s zero u r h = absurd (omega (arith, u.0))
   link_is s (suc k) u r h =
       let a = length-map (records s) (link_of M) in
-      let m = map_at (link_of M) (records s) k _ (omega (arith, u.1)) in
+      let lt : k < length (records s) = omega (arith, u.1) in
       let e : suc k - 1 ≡ k = omega arith in
-      m.2 ∙ ap (link_of M) (sym (h m.0 ∙ ap (λ z. get_or (records s) z m.0) e ∙ m.1 m.0))
+      get_or-map (link_of M) (records s) k r _ lt ∙ ap (link_of M) (sym (h r ∙ ap (λ z. get_or (records s) z r) e))
 
   pub near_is : (s : State Q) (st : Step) (r : Link L) → link M.quantities s (place st) ≡ link_of M r → near st r ≡ start (plan M.quantities s) st
   near_is s (Forward p) r e = sym (ap (λ z. z.from) e)

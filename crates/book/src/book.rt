@@ -6,7 +6,7 @@ use crate::store::Store;
 use kind::Kind;
 use search::Link;
 
-// The standing links of one network, over a lent row of link records. What it holds is told by `state_of`.
+/// The standing links of one network, over a lent row of link records. What it holds is told by `state_of`.
 #[derive(Drop)]
 pub struct Book<'a, K: Kind> {
     pub(crate) store: Store<'a, K::Latency>,
@@ -16,8 +16,8 @@ pub struct Book<'a, K: Kind> {
 }
 
 impl<'a, K: Kind> Book<'a, K> {
-    // A new book: no link stands, it has one switch and is not issued. It has room for as many links as there are
-    // records, 8,192 at most.
+    /// A new book: no link stands, it has one switch and is not issued. It has room for as many links as there are
+    /// records, 8,192 at most.
     pub fn new(links: &'a mut [Link<K::Latency>]) -> Self
         ensures state { state_of K.Kind.meaning result.store ≡ fresh K.Kind.meaning (min (length links.old) 8192) }
         ensures ran { Ran K.Kind.meaning [] (state_of K.Kind.meaning result.store) }
@@ -33,7 +33,7 @@ impl<'a, K: Kind> Book<'a, K> {
         }
     }
 
-    // How many switches the book has.
+    /// How many switches the book has.
     pub fn switches(&self) -> u32
         ensures { result ≡ self.now.store.n }
     {

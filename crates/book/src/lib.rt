@@ -1,6 +1,7 @@
 #![tactic(auto)]
 
 mod book;
+mod check;
 mod issue;
 mod link;
 mod offset;

@@ -1,5 +1,5 @@
-ghost use Rattle.std.specs.Prelude.{◌≡◌, ◌*◌, ◌<◌, ◌≤◌, true, [], ◌∷◌, ◌++◌, length, take, drop, IfSome, MatchResult, slice_set};
-ghost use Rattle.calls.specs.State.{LINK, Inside, Enough, First};
+ghost use Rattle.std.specs.Prelude.{◌≡◌, ◌*◌, ◌<◌, ◌≤◌, [], ◌∷◌, ◌++◌, length, take, drop, IfSome, MatchResult, slice_set};
+ghost use Rattle.calls.specs.State.{LINK, First};
 ghost use Rattle.calls.specs.Calls.{checks, holding};
 ghost use Rattle.calls.specs.Verdicts.{Ready, LinkVerdict, ReadsBack};
 ghost use Rattle.search.specs.Records.{link_of, On};
@@ -8,26 +8,11 @@ ghost use Rattle.book.specs.Memory.{state_of, capacity_of, records, rows_of, sho
 ghost use Rattle.book.specs.Search.{Joins, Nowhere};
 
 use crate::book::Book;
+use crate::check::{check_inside, check_rows};
 use crate::store::Refused;
 use calls::Refusal;
 use kind::Kind;
 use search::{Link, link_verdict};
-
-pub(crate) fn is_inside(n: u32, i: u32, j: u32) -> bool
-    ensures yes { result ≡ true → Inside n (i ∷ j ∷ []) }
-    ensures no { Inside n (i ∷ j ∷ []) → result ≡ true }
-{
-    1 <= i && i <= n && 1 <= j && j <= n
-}
-
-// Whether the rows have the places that a search over n switches needs.
-pub(crate) fn is_enough(n: usize, totals: usize, numbers: usize, steps: usize) -> bool
-    requires { n ≤ 1024 }
-    ensures yes { result ≡ true → Enough n (record { totals = totals; numbers = numbers; steps = steps }) }
-    ensures no { Enough n (record { totals = totals; numbers = numbers; steps = steps }) → result ≡ true }
-{
-    2 * n <= totals && 4 * n <= numbers && n <= steps
-}
 
 impl<'a, K: Kind> Book<'a, K> {
     // The checks before the verdict, in their order.
@@ -40,25 +25,18 @@ impl<'a, K: Kind> Book<'a, K> {
     ) -> Result<(), Refusal>
         ensures { MatchResult result (λ _. Ready K.Kind.meaning (state_of K.Kind.meaning self.now.store) (link_of K.Kind.meaning new) (record { totals = totals; numbers = numbers; steps = steps }) × Nowhere (Joins new.from new.to) (records self.now.store)) (λ e. First (checks K.Kind.meaning (state_of K.Kind.meaning self.now.store) (LINK (link_of K.Kind.meaning new) (record { totals = totals; numbers = numbers; steps = steps }))) e []) }
     {
-        if self.store.issued {
-            return Err(Refusal::Issued);
-        }
-        if !is_inside(self.store.n, new.from, new.to) {
-            return Err(Refusal::UnknownSwitch);
-        }
+        self.check_not_issued()?;
+        check_inside(self.store.n, new.from, new.to)?;
         if new.from == new.to {
             return Err(Refusal::SameSwitch);
         }
-        if let Some(_) = self.store.find(new.from, new.to) {
+        if self.store.find(new.from, new.to).is_some() {
             return Err(Refusal::AlreadyStands);
         }
         if self.store.is_full() {
             return Err(Refusal::Full);
         }
-        if !is_enough(self.store.n as usize, totals, numbers, steps) {
-            return Err(Refusal::ShortRow);
-        }
-        Ok(())
+        check_rows(self.store.n as usize, totals, numbers, steps)
     }
 
     // The verdict on a link whose switches are known, with rows that suffice: none, or the number of steps shown.
@@ -100,6 +78,7 @@ impl<'a, K: Kind> Book<'a, K> {
         self.store.put(link);
     }
 
+    // The call itself; `link` adds what its answer tells.
     fn enter(
         &mut self,
         new: Link<K::Latency>,
@@ -112,9 +91,7 @@ impl<'a, K: Kind> Book<'a, K> {
         ensures records { Entered result new self.old.store self.new.store }
         ensures rows { RowsLeft self.old.store.n result totals.old totals.new numbers.old numbers.new steps.old steps.new }
     {
-        if let Err(refusal) = self.check_link(new, totals.len(), numbers.len(), steps.len()) {
-            return Err(Refused { refusal, shown: 0 });
-        }
+        self.check_link(new, totals.len(), numbers.len(), steps.len())?;
         if let Some(shown) = self.judge(new, totals, numbers, steps) {
             return Err(Refused {
                 refusal: Refusal::Contradicts,
@@ -125,8 +102,8 @@ impl<'a, K: Kind> Book<'a, K> {
         Ok(())
     }
 
-    // LINK: a new link stands last, if offsets carry it with those that stand. If none do, the refusal shows the
-    // path of joining links that leads from its receiver back to its sender.
+    /// LINK: a new link stands last, if offsets carry it with those that stand. If none do, the refusal shows the
+    /// path of joining links that leads from its receiver back to its sender.
     pub fn link(
         &mut self,
         new: Link<K::Latency>,

@@ -1,16 +1,17 @@
-ghost use Rattle.std.specs.Prelude.{◌≡◌, ◌-◌, ◌*◌, List, IfOk};
+ghost use Rattle.std.specs.Prelude.{◌-◌, ◌*◌, List, IfOk};
 ghost use Rattle.calls.specs.State.{Call, Answer, OFFSET};
 ghost use Rattle.calls.specs.Calls.{Ran};
 ghost use Rattle.calls.specs.Verdicts.{OffsetVerdict};
 ghost use Rattle.book.specs.Memory.{state_of, rows_of, single, Answered, RowsUsed};
 
 use crate::book::Book;
-use crate::link::{is_enough, is_inside};
+use crate::check::{check_inside, check_rows};
 use calls::Refusal;
 use kind::Kind;
 use search::{Between, offset_between};
 
 impl<'a, K: Kind> Book<'a, K> {
+    // The call itself; `offset` adds what its answer tells.
     fn difference(
         &self,
         i: u32,
@@ -23,13 +24,9 @@ impl<'a, K: Kind> Book<'a, K> {
         ensures reach { IfOk result (λ t. K.Kind.meaning.within (2 * (self.now.store.n - 1)) t) }
         ensures rows { RowsUsed self.now.store.n result totals.old totals.new numbers.old numbers.new }
     {
-        if !is_inside(self.store.n, i, j) {
-            return Err(Refusal::UnknownSwitch);
-        }
+        check_inside(self.store.n, i, j)?;
         let n = self.store.n as usize;
-        if !is_enough(n, totals.len(), numbers.len(), steps.len()) {
-            return Err(Refusal::ShortRow);
-        }
+        check_rows(n, totals.len(), numbers.len(), steps.len())?;
         match offset_between::<K>(
             &self.store.links[0..self.store.count],
             n,
@@ -44,7 +41,7 @@ impl<'a, K: Kind> Book<'a, K> {
         }
     }
 
-    // OFFSET: what the offset of j is more than that of i, in all offsets that carry the standing links.
+    /// OFFSET: what the offset of j is more than that of i, in all offsets that carry the standing links.
     pub fn offset(
         &self,
         i: u32,

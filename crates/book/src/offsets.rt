@@ -1,16 +1,16 @@
-ghost use Rattle.std.specs.Prelude.{◌≡◌, ◌*◌, take};
+ghost use Rattle.std.specs.Prelude.{take};
 ghost use Rattle.calls.specs.State.{OFFSETS};
-ghost use Rattle.book.specs.Memory.{state_of, rows_of, row_answer, Answered, RowsUsed, Near};
+ghost use Rattle.book.specs.Memory.{rows_of, row_answer, Answered, RowsUsed, Near};
 
 use crate::book::Book;
-use crate::link::is_enough;
+use crate::check::check_rows;
 use calls::Refusal;
 use kind::Kind;
 use search::grounded_offsets;
 
 impl<'a, K: Kind> Book<'a, K> {
-    // OFFSETS: offsets that carry all standing links, zero at the lowest switch of each connected group, in the first n
-    // totals.
+    /// OFFSETS: offsets that carry all standing links, zero at the lowest switch of each connected group, in the first n
+    /// totals.
     pub fn offsets(
         &self,
         totals: &mut [K::Total],
@@ -22,9 +22,7 @@ impl<'a, K: Kind> Book<'a, K> {
         ensures rows { RowsUsed self.now.store.n result totals.old totals.new numbers.old numbers.new }
     {
         let n = self.store.n as usize;
-        if !is_enough(n, totals.len(), numbers.len(), steps.len()) {
-            return Err(Refusal::ShortRow);
-        }
+        check_rows(n, totals.len(), numbers.len(), steps.len())?;
         if !grounded_offsets::<K>(&self.store.links[0..self.store.count], n, totals, numbers) {
             return Err(Refusal::Torn);
         }

@@ -1,16 +1,17 @@
-ghost use Rattle.std.specs.Prelude.{◌≡◌, ◌*◌, ◌≤◌, length, take};
+ghost use Rattle.std.specs.Prelude.{take};
 ghost use Rattle.calls.specs.State.{REALISE};
 ghost use Rattle.calls.specs.Verdicts.{RealiseVerdict, LoopReadsBack};
 ghost use Rattle.book.specs.Memory.{state_of, rows_of, shown_offsets, shown, Answered, RowsLeft, Near};
 
 use crate::book::Book;
-use crate::link::is_enough;
+use crate::check::check_rows;
 use crate::store::Refused;
 use calls::Refusal;
 use kind::Kind;
 use schedule::least_offsets;
 
 impl<'a, K: Kind> Book<'a, K> {
+    // The call itself; `realise` adds what its answer tells.
     fn schedule(
         &self,
         totals: &mut [K::Total],
@@ -22,18 +23,10 @@ impl<'a, K: Kind> Book<'a, K> {
         ensures reach { Near K.Kind.meaning self.now.store.n result totals.new }
     {
         if !K::is_ordered() {
-            return Err(Refused {
-                refusal: Refusal::Unordered,
-                shown: 0,
-            });
+            return Err(Refusal::Unordered.into());
         }
         let n = self.store.n as usize;
-        if !is_enough(n, totals.len(), numbers.len(), steps.len()) {
-            return Err(Refused {
-                refusal: Refusal::ShortRow,
-                shown: 0,
-            });
-        }
+        check_rows(n, totals.len(), numbers.len(), steps.len())?;
         match least_offsets::<K>(
             &self.store.links[0..self.store.count],
             n,
@@ -49,8 +42,8 @@ impl<'a, K: Kind> Book<'a, K> {
         }
     }
 
-    // REALISE: the least offsets, none below zero, under which no standing link's measured latency is below zero, in
-    // the first n totals. If there are none, the refusal shows a loop whose measured total is below zero.
+    /// REALISE: the least offsets, none below zero, under which no standing link's measured latency is below zero, in
+    /// the first n totals. If there are none, the refusal shows a loop whose measured total is below zero.
     pub fn realise(
         &self,
         totals: &mut [K::Total],

@@ -1,4 +1,4 @@
-ghost use Rattle.std.specs.Prelude.{◌≡◌, ℕ, ◌+◌, ◌-◌, ◌<◌, ◌≤◌, true, false, ◌++◌, length, drop, slice_index_or, slice_set};
+ghost use Rattle.std.specs.Prelude.{◌≡◌, ◌+◌, ◌-◌, ◌<◌, ◌≤◌, ◌++◌, length, drop, slice_index_or, slice_set, MatchBool};
 ghost use Rattle.std.specs.List.{remove};
 ghost use Rattle.book.specs.Memory.{records, capacity_of};
 ghost use Rattle.book.specs.Search.{Past, Joins, Seen, Located};
@@ -6,16 +6,26 @@ ghost use Rattle.book.specs.Search.{Past, Joins, Seen, Located};
 use calls::Refusal;
 use search::Link;
 
-// Why a call was turned down, and how many step words stand at the start of the step row.
-#[derive(Clone, Copy)]
+/// Why a call was turned down, and how many step words stand at the start of the step row.
+#[derive(Clone, Copy, Debug, PartialEq, Eq)]
 pub struct Refused {
     pub refusal: Refusal,
     pub shown: usize,
 }
 
+// A refusal by itself shows no steps.
+impl From<Refusal> for Refused {
+    ghost from_gives = { λ e r. r ≡ record { refusal = e; shown = 0 } };
+
+    fn from(refusal: Refusal) -> Refused {
+        Refused { refusal, shown: 0 }
+    }
+}
+
 // A book has room for at most so many links.
 const MAX_LINKS: usize = 8192;
 
+// The row, of which the first `count` records stand; the ones behind them are the caller's still.
 #[derive(Drop)]
 pub struct Store<'a, L> {
     pub links: &'a mut [Link<L>],
@@ -29,13 +39,15 @@ impl<'a, L: Copy> Store<'a, L> {
         requires { self.now.count ≤ length self.now.links.now }
         ensures { Seen (Past n) (records self.now) result }
     {
-        any_past(&self.links[0..self.count], n)
+        self.links[..self.count]
+            .iter()
+            .any(|link| link.from > n || link.to > n)
     }
 
     pub(crate) fn is_full(&self) -> bool
-        ensures { elim result [ true ↦ capacity_of self.now ≤ self.now.count | false ↦ self.now.count < capacity_of self.now ] }
+        ensures { MatchBool result (capacity_of self.now ≤ self.now.count) (self.now.count < capacity_of self.now) }
     {
-        self.count >= self.links.len() || self.count >= MAX_LINKS
+        self.count >= self.links.len().min(MAX_LINKS)
     }
 
     pub(crate) fn get(&self, at: usize) -> Link<L>
@@ -43,14 +55,16 @@ impl<'a, L: Copy> Store<'a, L> {
         requires stands { at < self.now.count }
         ensures { (d : Link L) → result ≡ slice_index_or (records self.now) at d }
     {
-        read(&self.links[0..self.count], at)
+        self.links[at]
     }
 
     pub(crate) fn find(&self, from: u32, to: u32) -> Option<usize>
         requires { self.now.count ≤ length self.now.links.now }
         ensures { Located (Joins from to) (records self.now) result }
     {
-        find_in(&self.links[0..self.count], from, to)
+        self.links[..self.count]
+            .iter()
+            .position(|link| link.from == from && link.to == to)
     }
 
     // The records after the one at `at` move up by one place.
@@ -62,9 +76,8 @@ impl<'a, L: Copy> Store<'a, L> {
         ensures n { self.new.n ≡ self.old.n }
         ensures issued { self.new.issued ≡ self.old.issued }
     {
-        let count = self.count;
-        close(&mut self.links[0..count], at);
-        self.count = count - 1;
+        self.links.copy_within(at + 1..self.count, at);
+        self.count -= 1;
     }
 
     pub(crate) fn put(&mut self, link: Link<L>)
@@ -74,64 +87,7 @@ impl<'a, L: Copy> Store<'a, L> {
         ensures n { self.new.n ≡ self.old.n }
         ensures issued { self.new.issued ≡ self.old.issued }
     {
-        let at = self.count;
-        self.links[at] = link;
-        self.count = at + 1;
+        self.links[self.count] = link;
+        self.count += 1;
     }
-}
-
-fn any_past<L: Copy>(links: &[Link<L>], n: u32) -> bool
-    ensures { Seen (Past n) links.now result }
-{
-    let mut i = 0;
-    while i < links.len() {
-        let x = links[i];
-        if x.from > n || x.to > n {
-            return true;
-        }
-        i += 1;
-    }
-    false
-}
-
-fn find_in<L: Copy>(links: &[Link<L>], from: u32, to: u32) -> Option<usize>
-    ensures { Located (Joins from to) links.now result }
-{
-    let mut i = 0;
-    loop {
-        if i >= links.len() {
-            break None;
-        }
-        let x = links[i];
-        if x.from == from && x.to == to {
-            break Some(i);
-        }
-        i += 1;
-    }
-}
-
-fn close<L: Copy>(links: &mut [Link<L>], at: usize)
-    requires { at < length links.old }
-    ensures { links.new ≡ remove links.old at ++ drop (length links.old - 1) links.old }
-{
-    let mut i = at + 1;
-    while i < links.len() {
-        let x = links[i];
-        write(links, i - 1, x);
-        i += 1;
-    }
-}
-
-fn read<L: Copy>(links: &[Link<L>], at: usize) -> Link<L>
-    requires { at < length links.now }
-    ensures { (d : Link L) → result ≡ slice_index_or links.now at d }
-{
-    links[at]
-}
-
-fn write<L: Copy>(links: &mut [Link<L>], at: usize, link: Link<L>)
-    requires { at < length links.old }
-    ensures { links.new ≡ slice_set links.old at link }
-{
-    links[at] = link;
 }

@@ -3,28 +3,21 @@ ghost use Rattle.calls.specs.State.{STRIKE};
 ghost use Rattle.book.specs.Memory.{plain, Answered, Kept};
 
 use crate::book::Book;
+use crate::check::check_inside;
 use calls::Refusal;
 use kind::Kind;
 
 impl<'a, K: Kind> Book<'a, K> {
-    // STRIKE: takes out the standing link between the two switches; the later ones move up by one.
+    /// STRIKE: takes out the standing link between the two switches; the later ones move up by one.
     pub fn strike(&mut self, from: u32, to: u32) -> Result<(), Refusal>
         ensures call { Answered K.Kind.meaning self.old.store (STRIKE from to) (plain result) self.new.store }
         ensures kept { Kept result self.old.store self.new.store }
         ensures records { drop self.old.store.count self.new.store.links.now ≡ drop self.old.store.count self.old.store.links.now }
     {
-        if self.store.issued {
-            return Err(Refusal::Issued);
-        }
-        if from < 1 || from > self.store.n || to < 1 || to > self.store.n {
-            return Err(Refusal::UnknownSwitch);
-        }
-        match self.store.find(from, to) {
-            None => Err(Refusal::NotStanding),
-            Some(at) => {
-                self.store.remove(at);
-                Ok(())
-            }
-        }
+        self.check_not_issued()?;
+        check_inside(self.store.n, from, to)?;
+        let at = self.store.find(from, to).ok_or(Refusal::NotStanding)?;
+        self.store.remove(at);
+        Ok(())
     }
 }

@@ -35,7 +35,7 @@ impl<'a, K: Kind> Book<'a, K> {
         })
     }
 
-    // WALK: the measured and the wanted total of the steps that the words name, each step from where the last ended.
+    /// WALK: the measured and the wanted total of the steps that the words name, each step from where the last ended.
     pub fn walk(&self, words: &[u32]) -> Result<(K::Total, K::Total), Refusal>
         ensures call { Answered K.Kind.meaning self.now.store (WALK words.now) (pair K.Kind.meaning result) self.now.store }
         ensures reach { IfOk result (λ x. K.Kind.meaning.within 65536 x.0 × K.Kind.meaning.within 65536 x.1) }
@@ -48,10 +48,8 @@ impl<'a, K: Kind> Book<'a, K> {
             measured: K::zero(),
             wanted: K::zero(),
         };
-        let mut i = 0;
-        while i < words.len() {
-            trip = self.advance(i, trip, words[i])?;
-            i += 1;
+        for (done, &word) in words.iter().enumerate() {
+            trip = self.advance(done, trip, word)?;
         }
         Ok((trip.measured, trip.wanted))
     }

@@ -1,14 +1,11 @@
-use Rattle.std.proofs.Common.{◌≡◌, ◌-◌, ◌≤◌, length, get_or, sym, refl, ap, ◌∙◌, inl, inr, arith}
+use Rattle.std.proofs.Common.{◌≡◌, ◌-◌, ◌≤◌, length, get_or, sym, refl, ap, ◌∙◌, inr, arith}
 use Rattle.network.specs.Graph.{start, place}
 use Rattle.book.specs.Memory.{state_of, records}
 use Rattle.calls.specs.Standing.{plan}
 use Rattle.book.specs.Walking.{signed}
-use Rattle.book.proofs.Walks.{stands_upto, upto_stands, link_is, near_is, far_is, walk_on}
+use Rattle.book.proofs.Walks.{stands_upto, link_is, near_is, far_is, walk_on}
 use Rattle.book.proofs.book.Book.advance.Goals as goal
 use Rattle.book.proofs.book.Book.advance.Goals.{else-done-gt0-via-then-done-gt0+else-leg-trip, else-done-gt0-via-else-done-gt0}
-
-pub returns-in_default : goal.returns-in_default
-returns-in_default g c = λ ws len lt k. inl (refl, λ e. c.in_default.ensures e.0 e.1.0 (upto_stands g.K.Kind.meaning c.args.self.now.store c.args.self.now.held.0 _ e.1.1))
 
 pub returns-then-leg-trip : goal.returns-then-leg-trip
 returns-then-leg-trip g c = λ ws len lt k.
