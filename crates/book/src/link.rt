@@ -39,34 +39,6 @@ impl<'a, K: Kind> Book<'a, K> {
         check_rows(self.store.n as usize, totals, numbers, steps)
     }
 
-    // The verdict on a link whose switches are known, with rows that suffice: none, or the number of steps shown.
-    fn judge(
-        &self,
-        new: Link<K::Latency>,
-        totals: &mut [K::Total],
-        numbers: &mut [u32],
-        steps: &mut [u32],
-    ) -> Option<usize>
-        requires totals { 2 * self.now.store.n ≤ length totals.old }
-        requires numbers { 4 * self.now.store.n ≤ length numbers.old }
-        requires steps { self.now.store.n ≤ length steps.old }
-        requires from { On self.now.store.n new.from }
-        requires to { On self.now.store.n new.to }
-        ensures short { IfSome result (λ m. m ≤ self.now.store.n) }
-        ensures verdict { Judged K.Kind.meaning.quantities (state_of K.Kind.meaning self.now.store).links (link_of K.Kind.meaning new) steps.old steps.new result }
-        ensures totals { drop (2 * self.now.store.n) totals.new ≡ drop (2 * self.now.store.n) totals.old }
-        ensures numbers { drop (4 * self.now.store.n) numbers.new ≡ drop (4 * self.now.store.n) numbers.old }
-    {
-        link_verdict::<K>(
-            &self.store.links[0..self.store.count],
-            new,
-            self.store.n as usize,
-            totals,
-            numbers,
-            steps,
-        )
-    }
-
     // Writes the record behind the standing ones, where it may stand.
     fn append(&mut self, link: Link<K::Latency>)
         requires good { Good self.old.store.n link }
@@ -92,12 +64,7 @@ impl<'a, K: Kind> Book<'a, K> {
         ensures rows { RowsLeft self.old.store.n result totals.old totals.new numbers.old numbers.new steps.old steps.new }
     {
         self.check_link(new, totals.len(), numbers.len(), steps.len())?;
-        if let Some(shown) = self.judge(new, totals, numbers, steps) {
-            return Err(Refused {
-                refusal: Refusal::Contradicts,
-                shown,
-            });
-        }
+        link_verdict::<K>(&self.network(), &new, totals, numbers, steps)?;
         self.append(new);
         Ok(())
     }

@@ -8,7 +8,7 @@ use crate::book::Book;
 use crate::check::{check_inside, check_rows};
 use calls::Refusal;
 use kind::Kind;
-use search::{Between, offset_between};
+use search::{Unknown, offset_between};
 
 impl<'a, K: Kind> Book<'a, K> {
     // The call itself; `offset` adds what its answer tells.
@@ -25,19 +25,16 @@ impl<'a, K: Kind> Book<'a, K> {
         ensures rows { RowsUsed self.now.store.n result totals.old totals.new numbers.old numbers.new }
     {
         check_inside(self.store.n, i, j)?;
-        let n = self.store.n as usize;
-        check_rows(n, totals.len(), numbers.len(), steps.len())?;
-        match offset_between::<K>(
-            &self.store.links[0..self.store.count],
-            n,
-            i,
-            j,
-            totals,
-            numbers,
-        ) {
-            Between::Torn => Err(Refusal::Torn),
-            Between::Apart => Err(Refusal::NotConnected),
-            Between::Known(t) => Ok(t),
+        check_rows(
+            self.store.n as usize,
+            totals.len(),
+            numbers.len(),
+            steps.len(),
+        )?;
+        match offset_between::<K>(&self.network(), i, j, totals, numbers) {
+            Ok(t) => Ok(t),
+            Err(Unknown::Torn) => Err(Refusal::Torn),
+            Err(Unknown::Apart) => Err(Refusal::NotConnected),
         }
     }
 

@@ -6,7 +6,7 @@ use crate::book::Book;
 use crate::check::check_rows;
 use calls::Refusal;
 use kind::Kind;
-use search::grounded_offsets;
+use search::{Torn, grounded_offsets};
 
 impl<'a, K: Kind> Book<'a, K> {
     /// OFFSETS: offsets that carry all standing links, zero at the lowest switch of each connected group, in the first n
@@ -21,11 +21,15 @@ impl<'a, K: Kind> Book<'a, K> {
         ensures reach { Near K.Kind.meaning self.now.store.n result (take self.now.store.n totals.new) }
         ensures rows { RowsUsed self.now.store.n result totals.old totals.new numbers.old numbers.new }
     {
-        let n = self.store.n as usize;
-        check_rows(n, totals.len(), numbers.len(), steps.len())?;
-        if !grounded_offsets::<K>(&self.store.links[0..self.store.count], n, totals, numbers) {
-            return Err(Refusal::Torn);
+        check_rows(
+            self.store.n as usize,
+            totals.len(),
+            numbers.len(),
+            steps.len(),
+        )?;
+        match grounded_offsets::<K>(&self.network(), totals, numbers) {
+            Ok(()) => Ok(()),
+            Err(Torn) => Err(Refusal::Torn),
         }
-        Ok(())
     }
 }

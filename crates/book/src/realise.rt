@@ -25,21 +25,14 @@ impl<'a, K: Kind> Book<'a, K> {
         if !K::is_ordered() {
             return Err(Refusal::Unordered.into());
         }
-        let n = self.store.n as usize;
-        check_rows(n, totals.len(), numbers.len(), steps.len())?;
-        match least_offsets::<K>(
-            &self.store.links[0..self.store.count],
-            n,
-            totals,
-            numbers,
-            steps,
-        ) {
-            None => Ok(()),
-            Some(shown) => Err(Refused {
-                refusal: Refusal::NegativeLoop,
-                shown,
-            }),
-        }
+        check_rows(
+            self.store.n as usize,
+            totals.len(),
+            numbers.len(),
+            steps.len(),
+        )?;
+        least_offsets::<K>(&self.network(), totals, numbers, steps)?;
+        Ok(())
     }
 
     /// REALISE: the least offsets, none below zero, under which no standing link's measured latency is below zero, in

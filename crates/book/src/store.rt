@@ -1,10 +1,12 @@
 ghost use Rattle.std.specs.Prelude.{◌≡◌, ◌+◌, ◌-◌, ◌<◌, ◌≤◌, ◌++◌, length, drop, slice_index_or, slice_set, MatchBool};
 ghost use Rattle.std.specs.List.{remove};
+ghost use Rattle.calls.specs.declared.Refusal.TheVariants.{Contradicts, NegativeLoop};
 ghost use Rattle.book.specs.Memory.{records, capacity_of};
 ghost use Rattle.book.specs.Search.{Past, Joins, Seen, Located};
 
 use calls::Refusal;
-use search::Link;
+use schedule::Unrealisable;
+use search::{Contradiction, Link};
 
 /// Why a call was turned down, and how many step words stand at the start of the step row.
 #[derive(Clone, Copy, Debug, PartialEq, Eq)]
@@ -19,6 +21,28 @@ impl From<Refusal> for Refused {
 
     fn from(refusal: Refusal) -> Refused {
         Refused { refusal, shown: 0 }
+    }
+}
+
+impl From<Contradiction> for Refused {
+    ghost from_gives = { λ e r. r ≡ record { refusal = Contradicts; shown = e.steps } };
+
+    fn from(contradiction: Contradiction) -> Refused {
+        Refused {
+            refusal: Refusal::Contradicts,
+            shown: contradiction.steps,
+        }
+    }
+}
+
+impl From<Unrealisable> for Refused {
+    ghost from_gives = { λ e r. r ≡ record { refusal = NegativeLoop; shown = e.steps } };
+
+    fn from(unrealisable: Unrealisable) -> Refused {
+        Refused {
+            refusal: Refusal::NegativeLoop,
+            shown: unrealisable.steps,
+        }
     }
 }
 

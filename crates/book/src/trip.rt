@@ -23,33 +23,13 @@ pub struct Leg<T> {
     pub wanted: T,
 }
 
-// Added to a link's position, a step's direction makes the word that names the step.
-const FORWARD: u32 = 0xA000_0000;
-
-const BACKWARD: u32 = 0xB000_0000;
-
-// The position of the link that the step passes.
-pub(crate) fn place_of(step: Step) -> usize
-    ensures { result ≡ place step }
-{
-    match step {
-        Step::Forward(p) | Step::Backward(p) => p,
-    }
-}
-
 // The step that the word names, where a link stands at its position.
 pub(crate) fn read_step(word: u32, count: usize) -> Option<Step>
     requires { count ≤ 8192 }
     ensures { Named count word result }
 {
-    let step = if word >= BACKWARD {
-        Step::Backward((word - BACKWARD) as usize)
-    } else if word >= FORWARD {
-        Step::Forward((word - FORWARD) as usize)
-    } else {
-        return None;
-    };
-    (1..=count).contains(&place_of(step)).then_some(step)
+    let step = Step::try_from(word).ok()?;
+    (1..=count).contains(&step.place()).then_some(step)
 }
 
 // What the step adds to a walk that comes to the link.

@@ -4,7 +4,7 @@ ghost use Rattle.book.specs.Memory.{state_of, pair, Answered};
 ghost use Rattle.book.specs.Walking.{Walked, Stepped};
 
 use crate::book::Book;
-use crate::trip::{Trip, pass, place_of, read_step};
+use crate::trip::{Trip, pass, read_step};
 use calls::Refusal;
 use kind::Kind;
 
@@ -24,7 +24,7 @@ impl<'a, K: Kind> Book<'a, K> {
         let Some(step) = read_step(word, self.store.count) else {
             return Err(Refusal::NoSuchStep);
         };
-        let leg = pass::<K>(step, self.store.get(place_of(step) - 1));
+        let leg = pass::<K>(step, self.store.get(step.place() - 1));
         if done > 0 && leg.start != trip.at {
             return Err(Refusal::BrokenWalk);
         }

@@ -14,7 +14,7 @@ returns-then-leg-trip g c = λ ws len lt k.
     let st = c.in-Some.step in
     let n = c.in-Some.ensures in
     let u = stands_upto M s c.args.self.now.held.0 (place st) n.1 in
-    let e = link_is M s (place st) u c.get.result (λ d. c.get.ensures d ∙ ap (λ z. get_or (records s) (z - 1) d) c.place_of.ensures) in
+    let e = link_is M s (place st) u c.get.result (λ d. c.get.ensures d ∙ ap (λ z. get_or (records s) (z - 1) d) c.place.ensures) in
     inr (refl, omega arith, (st, (n.0, u), λ h. c.if-leg-trip.true (c.pass-leg.ensures.start ∙ near_is M (state_of M s) st c.get.result e ∙ h)))
 
 pub returns : goal.returns
@@ -24,7 +24,7 @@ returns g c = λ ws len lt k.
     let st = c.in-Some.step in
     let n = c.in-Some.ensures in
     let u = stands_upto M s c.args.self.now.held.0 (place st) n.1 in
-    let e = link_is M s (place st) u c.get.result (λ d. c.get.ensures d ∙ ap (λ z. get_or (records s) (z - 1) d) c.place_of.ensures) in
+    let e = link_is M s (place st) u c.get.result (λ d. c.get.ensures d ∙ ap (λ z. get_or (records s) (z - 1) d) c.place.ensures) in
     let l = c.pass-leg.ensures in
     let m = c.sum.ensures (length ws) 1 k.low l.low (omega arith) in
     let w = c.sum-2.ensures (length ws) 1 k.high l.high (omega arith) in
