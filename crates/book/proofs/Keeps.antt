@@ -1,9 +1,10 @@
--- One record taken out: what stands then, and that the invariants stay.
-use Rattle.std.proofs.Common.{◌≡◌, ℕ, suc, ◌-◌, ◌<◌, ◌≤◌, min, Bool, List, ◌++◌, map, length, take, drop, sym, ap, ◌∙◌, subst, ⊎_elim, arith}
+-- One record taken out, or one put at the end: what stands then, and that the invariants stay.
+use Rattle.std.proofs.Common.{◌≡◌, ℕ, suc, ◌+◌, ◌-◌, ◌<◌, ◌≤◌, min, Bool, List, [], ◌∷◌, ◌++◌, map, length, take, drop, set, sym, ap, ◌∙◌, subst, ⊎_elim, zero-le, arith}
 use mathlib.Core.List.{map-append}
 use Rattle.std.specs.List.{remove}
-use Rattle.std.proofs.lemmas.List.{take-map, drop-map, take_at, length-append, length-drop, length-take-le}
+use Rattle.std.proofs.lemmas.List.{take-map, drop-map, take_at, length-append, length-drop, length-take-le, take_more_set, length_push, get_or_push, get_or_append_left}
 use Rattle.std.proofs.lemmas.List.Edits.{length-remove}
+use Rattle.std.proofs.lemmas.List.Elements.{AllWithin-push}
 use Rattle.std.proofs.lemmas.Bool.{cases_lt}
 use Rattle.calls.proofs.Removed.{from_removed}
 use Rattle.kind.specs.Meaning.{Meaning}
@@ -13,8 +14,9 @@ use Rattle.book.specs.declared.store.Store.{Store}
 use Rattle.search.specs.Records.{link_of}
 use Rattle.book.specs.Memory.{state_of, records, capacity_of, Good, Sound, Single, Held}
 use Rattle.calls.specs.State.{State, STRIKE, done}
-use Rattle.calls.specs.Standing.{Stands}
 use Rattle.calls.specs.Calls.{Next, by_strike, holding}
+use Rattle.book.specs.Search.{Here, Nowhere, Joins}
+use Rattle.book.proofs.Places.{stands}
 
 module _ {L : Type 0} where
   pub sound-removed : (n : ℕ) (xs : List (Link L)) (i : ℕ) → i < length xs → Sound n xs → Sound n (remove xs i)
@@ -33,6 +35,22 @@ module _ {L : Type 0} where
       ⊎_elim (λ (p : j < i). let q = a.4 p in omega (arith, e.0, b.2)) (λ (p : i ≤ j). let q = b.5 (omega (arith, e.0)) in omega (arith, e.0, a.3)) (cases_lt j i) in
       h a.0 b.0 d (less, b.1, sym (ap (λ z. z.from) (a.6 d)) ∙ e.2 ∙ ap (λ z. z.from) (b.6 d), sym (ap (λ z. z.to) (a.6 d)) ∙ e.3 ∙ ap (λ z. z.to) (b.6 d))
 
+  pub sound-push : (n : ℕ) (xs : List (Link L)) (y : Link L) → Sound n xs → Good n y → Sound n (xs ++ y ∷ [])
+  sound-push n xs y h g = λ k lt d. AllWithin-push (Good n) xs y (λ k d _ lt. h k lt d) g k d zero-le lt
+
+  pub single-push : (xs : List (Link L)) (y : Link L) → Single xs → Nowhere (Joins y.from y.to) xs → Single (xs ++ y ∷ [])
+  single-push xs y h none = λ j k d e.
+      let len = length_push xs y in
+      let low : j < length xs = omega (arith, e.0, e.1) in
+      let a = get_or_append_left xs (y ∷ []) d j low in
+      ⊎_elim (λ (p : k < length xs).
+      let b = get_or_append_left xs (y ∷ []) d k p in
+      h j k d (e.0, p, sym (ap (λ z. z.from) a) ∙ e.2 ∙ ap (λ z. z.from) b, sym (ap (λ z. z.to) a) ∙ e.3 ∙ ap (λ z. z.to) b))
+      (λ (p : length xs ≤ k).
+      let b = get_or_push xs y d k (omega (arith, e.1)) in
+      none j low d (sym (ap (λ z. z.from) a) ∙ e.2 ∙ ap (λ z. z.from) b, sym (ap (λ z. z.to) a) ∙ e.3 ∙ ap (λ z. z.to) b))
+      (cases_lt k (length xs))
+
 pub map-removed : {X Y : Type 0} (f : X → Y) (xs : List X) (i : ℕ) → map f (remove xs i) ≡ remove (map f xs) i
 map-removed f xs i = map-append f (take i xs) (drop (suc i) xs) ∙ ap (λ z. z ++ map f (drop (suc i) xs)) (sym (take-map f i xs)) ∙ ap (λ z. take i (map f xs) ++ z) (sym (drop-map f (suc i) xs))
 
@@ -43,37 +61,46 @@ state_is M t u a b c d = same a b c d where
       → ◌≡◌ {A = State Q} (record { links = x; n = m; issued = p; capacity = k }) (record { links = y; n = n; issued = q; capacity = l })
   same a b c d = cc
 
-module _ {L T : Type 0} (M : Meaning L T) (s t : Store L) (at : ℕ)
-    (room : s.count ≤ length s.links.now) (low : at < s.count)
+module _ {L T : Type 0} (M : Meaning L T) (s t : Store L) (i j at : ℕ) (found : Here (Joins i j) (records s) at) (held : Held s)
     (links : t.links.now ≡ remove (records s) at ++ drop (s.count - 1) s.links.now) (count : t.count ≡ s.count - 1) (n : t.n ≡ s.n) (issued : t.issued ≡ s.issued) where
-  here : at < length (records s)
-  here = let l = length-take-le s.count s.links.now room in omega arith
+  low : at < s.count
+  low = let l = length-take-le s.count s.links.now held.0 in omega (arith, found.0)
 
   front : length (remove (records s) at) ≡ s.count - 1
-  front = let l = length-take-le s.count s.links.now room in let r = length-remove (records s) at here in omega arith
+  front = let l = length-take-le s.count s.links.now held.0 in let r = length-remove (records s) at found.0 in omega arith
 
-  pub struck_records : records t ≡ remove (records s) at
+  struck_records : records t ≡ remove (records s) at
   struck_records = ap (λ z. take z t.links.now) count ∙ ap (take (s.count - 1)) links ∙ take_at (remove (records s) at) _ (s.count - 1) front
 
-  pub struck_length : length t.links.now ≡ length s.links.now
+  struck_length : length t.links.now ≡ length s.links.now
   struck_length =
       let f = front in
       let a = length-append (remove (records s) at) (drop (s.count - 1) s.links.now) in
       let d = length-drop (s.count - 1) s.links.now in
       let e = ap length links in
-      omega arith
-
-  pub struck_held : Held s → Held t
-  struck_held h = let e = struck_length in (omega arith, omega arith, omega arith, omega arith)
+      let l = low in
+      omega (arith, held.0)
 
   pub struck_sound : Sound s.n (records s) → Sound t.n (records t)
-  struck_sound h = simp (struck_records, n) (sound-removed s.n (records s) at here h)
+  struck_sound h = simp (struck_records, n) (sound-removed s.n (records s) at found.0 h)
 
   pub struck_single : Single (records s) → Single (records t)
-  struck_single h = simp (struck_records) (single-removed (records s) at here h)
+  struck_single h = simp (struck_records) (single-removed (records s) at found.0 h)
 
-  pub struck_next : (i j : ℕ) → Stands M.quantities (state_of M s) i j (suc at) → Next M (state_of M s) (STRIKE i j) done (state_of M t)
-  struck_next i j st =
+  pub struck_next : Next M (state_of M s) (STRIKE i j) done (state_of M t)
+  struck_next =
       let P : State M.quantities.Q → Type 0 = λ u. Next M (state_of M s) (STRIKE i j) done u in
+      let h = stands M s (Joins i j) at found in
       let e = state_is M t (holding M (state_of M s) (remove (state_of M s).links at)) (ap (map (link_of M)) struck_records ∙ map-removed (link_of M) (records s) at) n issued (ap (λ z. min z 8192) struck_length) in
-      subst P (sym e) (by_strike i j at st)
+      subst P (sym e) (by_strike i j at (h.0, h.1.0, h.1.1))
+
+module _ {L : Type 0} (s t : Store L) (l : Link L)
+    (room : s.count < capacity_of s) (links : t.links.now ≡ set s.links.now s.count l) (count : t.count ≡ s.count + 1) where
+  added_records : records t ≡ records s ++ l ∷ []
+  added_records = ap (λ z. take z t.links.now) count ∙ ap (take (s.count + 1)) links ∙ take_more_set s.links.now s.count l (grind arith)
+
+  pub added_sound : t.n ≡ s.n → Good s.n l → Sound s.n (records s) → Sound t.n (records t)
+  added_sound n good h = simp (added_records, n) (sound-push s.n (records s) l h good)
+
+  pub added_single : Nowhere (Joins l.from l.to) (records s) → Single (records s) → Single (records t)
+  added_single fresh h = simp (added_records) (single-push (records s) l h fresh)
