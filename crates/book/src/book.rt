@@ -4,7 +4,7 @@ ghost use Rattle.book.specs.Memory.{state_of, records, Held, Sound, Single};
 
 use crate::store::Store;
 use kind::Kind;
-use search::{Link, Network};
+use search::Link;
 
 /// The standing links of one network, over a lent row of link records. What it holds is told by `state_of`.
 #[derive(Drop)]
@@ -30,17 +30,6 @@ impl<'a, K: Kind> Book<'a, K> {
                 n: 1,
                 issued: false,
             },
-        }
-    }
-
-    // The standing links, for a search.
-    pub(crate) fn network(&self) -> Network<'_, K::Latency>
-        ensures links { result.links.now ≡ records self.now.store }
-        ensures n { result.n ≡ self.now.store.n }
-    {
-        Network {
-            links: &self.store.links[..self.store.count],
-            n: self.store.n as usize,
         }
     }
 

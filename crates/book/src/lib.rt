@@ -8,6 +8,7 @@ mod offset;
 mod offsets;
 mod realise;
 mod size;
+mod standing;
 mod store;
 mod strike;
 mod trip;
