@@ -14,20 +14,10 @@ fn main(rt: HostRuntime) -> anyhow::Result<()> {
     let (Ok(tick), Ok(place)) = (Ticks::latency(0), Places::latency(0)) else {
         return Err(anyhow!("a kind has no zero latency"));
     };
-    let mut tick_links = [Link {
-        from: 0,
-        to: 0,
-        measured: tick,
-        wanted: tick,
-    }; 64];
-    let mut place_links = [Link {
-        from: 0,
-        to: 0,
-        measured: place,
-        wanted: place,
-    }; 64];
+    let mut tick_links = [Link::blank(tick); 64];
+    let mut place_links = [Link::blank(place); 64];
     let mut report = [0u8; 4096];
-    let written = match run_file(
+    let (Ok(written) | Err(Full(written))) = run_file(
         file.as_slice(),
         &mut tick_links,
         &mut [0i64; 128],
@@ -36,10 +26,7 @@ fn main(rt: HostRuntime) -> anyhow::Result<()> {
         &mut [0u32; 256],
         &mut [0u32; 64],
         &mut report,
-    ) {
-        Ok(bytes) => bytes,
-        Err(Full(bytes)) => bytes,
-    };
+    );
     rt.stdout()
         .write_all(report.get(0..written).unwrap_or(b"no report\n"))?;
     Ok(())

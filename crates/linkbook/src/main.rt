@@ -5,7 +5,6 @@ use book::{Book, Link};
 use kind::Kind;
 use kinds::{Places, Ticks};
 use report::{FileKind, Session};
-use std::alloc::{AllocError, Global};
 use std::io::{Read, Write};
 
 // One byte past the limit of a file is enough to tell that it is too long.
@@ -31,28 +30,14 @@ fn main(rt: HostRuntime) -> anyhow::Result<()> {
     }
 }
 
-fn row_of<T: Copy>(heap: Global, x: T, places: usize) -> Result<Vec<T>, AllocError> {
-    let mut row = Vec::new(heap);
-    for _ in 0..places {
-        row.push(x)?;
-    }
-    Ok(row)
-}
-
 fn print_report<K: Kind>(rt: HostRuntime, kind: FileKind, file: &[u8]) -> anyhow::Result<()> {
     let Ok(zero) = K::latency(0) else {
         return Err(anyhow!("the kind has no zero latency"));
     };
-    let blank = Link {
-        from: 0,
-        to: 0,
-        measured: zero,
-        wanted: zero,
-    };
-    let mut links = row_of(rt.alloc(), blank, RECORDS)?;
-    let mut totals = row_of(rt.alloc(), K::zero(), 2 * SWITCHES)?;
-    let mut numbers = row_of(rt.alloc(), 0u32, 4 * SWITCHES)?;
-    let mut steps = row_of(rt.alloc(), 0u32, SWITCHES)?;
+    let mut links = vec![in rt.alloc(); Link::blank(zero); RECORDS]?;
+    let mut totals = vec![in rt.alloc(); K::zero(); 2 * SWITCHES]?;
+    let mut numbers = vec![in rt.alloc(); 0u32; 4 * SWITCHES]?;
+    let mut steps = vec![in rt.alloc(); 0u32; SWITCHES]?;
     let mut report = vec![in rt.alloc(); 0u8; REPORT_ROOM]?;
     let mut output = rt.stdout();
     let mut book: Book<K> = Book::new(links.as_mut_slice());

@@ -15,18 +15,8 @@ mod tests {
         let (Ok(tick), Ok(place)) = (Ticks::latency(0), Places::latency(0)) else {
             return Err(Fail::new("a kind has no zero latency"));
         };
-        let mut tick_links = [Link {
-            from: 0,
-            to: 0,
-            measured: tick,
-            wanted: tick,
-        }; 1];
-        let mut place_links = [Link {
-            from: 0,
-            to: 0,
-            measured: place,
-            wanted: place,
-        }; 1];
+        let mut tick_links = [Link::blank(tick); 1];
+        let mut place_links = [Link::blank(place); 1];
         let mut report = [0u8; 64];
         let Ok(bytes) = run_file(
             file,

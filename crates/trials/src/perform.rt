@@ -23,13 +23,7 @@ fn latency<K: Kind>(number: i32) -> K::Latency
 pub(crate) fn blank<K: Kind>() -> Link<K::Latency>
     requires { is_some (K.Kind.meaning.reads (pos 0)) ≡ true }
 {
-    let zero = latency::<K>(0);
-    Link {
-        from: 0,
-        to: 0,
-        measured: zero,
-        wanted: zero,
-    }
+    Link::blank(latency::<K>(0))
 }
 
 fn outcome_of(answer: Result<(), Refusal>) -> Outcome
