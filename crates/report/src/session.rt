@@ -90,8 +90,8 @@ impl<'f, 'b, 'a, K: Kind> Session<'f, 'b, 'a, K> {
         steps: &mut [u32],
         row: &mut [u8],
     ) -> Line
-        requires at_value { ahead (reading_of self.old.reader.at) ≡ Good (There (item_of e)) }
-        requires in_bounds { 32768 ≤ length row.old }
+        requires next { ahead (reading_of self.old.reader.at) ≡ Good (There (item_of e)) }
+        requires room { 32768 ≤ length row.old }
         ensures { Step K.Kind.meaning (reading_of self.old.reader.at) (state_of K.Kind.meaning self.old.book.now.store) (lent_of totals.old numbers.old steps.old) (lent_of totals.new numbers.new steps.new) row.old row.new result (reading_of self.new.reader.at) (state_of K.Kind.meaning self.new.book.now.store) }
     {
         let first = self.first_word();

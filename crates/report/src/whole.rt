@@ -14,8 +14,8 @@ ghost use Rattle.report.specs.declared.file.FileKind.{FileKind as Sort};
 ghost use Rattle.report.specs.declared.file.FileKind.TheVariants.{Ticks as OfTicks, CyclePlaces as OfPlaces};
 
 use crate::file::FileKind;
-use crate::line::put_text;
 use crate::session::{LINE_ROOM, Line, Session};
+use crate::writer::RowWriter;
 use book::{Book, Link};
 use kind::Kind;
 use kinds::{PlaceLatency, Places, TickLatency, Ticks};
@@ -52,14 +52,14 @@ fn finish<K: Kind>(
     requires { 32768 ≤ length row.old }
     ensures { (sort : Sort) (capacity : ℕ) (text : List ℕ) → History K.Kind.meaning sort capacity (rows_of totals.old numbers.old steps.old) text [] Nothing (reading_of session.old.reader.at) (state_of K.Kind.meaning session.old.book.now.store) → Reported K.Kind.meaning sort capacity (rows_of totals.old numbers.old steps.old) text report.old report.new result }
 {
-    let mut at = 0;
+    let mut written = RowWriter::new(report);
     while let Some(l) = line(session, totals, numbers, steps, row) {
-        if report.len() - at < l.bytes {
-            return Err(Full(at));
+        if written.room() < l.bytes {
+            return Err(Full(written.len()));
         }
-        at = put_text(report, at, &row[..l.bytes]);
+        written.text(&row[..l.bytes]);
     }
-    Ok(at)
+    Ok(written.len())
 }
 
 // How far a report went: so many bytes of it are in its row, and whether it is over.

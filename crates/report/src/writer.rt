@@ -1,0 +1,64 @@
+ghost use Rattle.std.specs.Prelude.{◌≡◌, ◌+◌, ◌≤◌, [], ◌∷◌, length, decimal};
+ghost use Rattle.report.specs.Appending.{HasRoom, Appended};
+ghost use Rattle.report.specs.Lines.{hexes};
+
+use text::Text;
+
+// Puts bytes one after another into a row, from its start.
+#[derive(Drop)]
+pub(crate) struct RowWriter<'r> {
+    row: &'r mut [u8],
+    len: usize,
+}
+
+impl<'r> RowWriter<'r> {
+    pub(crate) fn new(row: &'r mut [u8]) -> RowWriter<'r>
+        ensures same_row { result.row.ghost_name ≡ row.entry.ghost_name }
+        ensures value { result.row.now ≡ row.old }
+        ensures empty { result.len ≡ 0 }
+    {
+        RowWriter { row, len: 0 }
+    }
+
+    // How many bytes it has put.
+    pub(crate) fn len(&self) -> usize
+        ensures { result ≡ self.now.len }
+    {
+        self.len
+    }
+
+    // How many bytes the row has left.
+    pub(crate) fn room(&self) -> usize
+        requires { HasRoom self.now 0 }
+        ensures { self.now.len + result ≡ length self.now.row.now }
+    {
+        self.row.len() - self.len
+    }
+
+    pub(crate) fn text(&mut self, text: &[u8])
+        requires { HasRoom self.old (length text.now) }
+        ensures { Appended self.old text.now self.new }
+    {
+        let end = self.len + text.len();
+        self.row[self.len..end].copy_from_slice(text);
+        self.len = end;
+    }
+
+    pub(crate) fn number(&mut self, n: u32)
+        requires { HasRoom self.old 28 }
+        ensures bound { self.new.len ≤ self.old.len + 28 }
+        ensures wrote { Appended self.old (decimal n) self.new }
+    {
+        self.text(Text::of_number(u64::from(n)).as_bytes());
+    }
+
+    // A word in hexadecimal, with a space before it.
+    pub(crate) fn word(&mut self, w: u32)
+        requires { HasRoom self.old 9 }
+        ensures bound { self.new.len ≡ self.old.len + 9 }
+        ensures wrote { Appended self.old (hexes (w ∷ [])) self.new }
+    {
+        self.text(b" ");
+        self.text(Text::of_word(w).as_bytes());
+    }
+}
