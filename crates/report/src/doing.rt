@@ -13,12 +13,8 @@ use kind::Kind;
 fn latencies<K: Kind>(m: i32, w: i32) -> Result<(K::Latency, K::Latency), LatencyFault>
     ensures { Made K.Kind.meaning m w result }
 {
-    let Ok(measured) = K::latency(m) else {
-        return Err(LatencyFault::Measured);
-    };
-    let Ok(wanted) = K::latency(w) else {
-        return Err(LatencyFault::Wanted);
-    };
+    let measured = K::latency(m).map_err(|_| LatencyFault::Measured)?;
+    let wanted = K::latency(w).map_err(|_| LatencyFault::Wanted)?;
     Ok((measured, wanted))
 }
 

@@ -9,7 +9,7 @@ const MAX_FILE: usize = 65536;
 const MAX_WALK: u32 = 1024;
 
 // The kind of latency that a head names.
-#[derive(Clone, Copy)]
+#[derive(Clone, Copy, Debug, PartialEq, Eq)]
 pub enum FileKind {
     Ticks,
     CyclePlaces,
@@ -31,7 +31,7 @@ pub enum Entry<'f> {
 }
 
 // What is wrong with the file itself. It ends the report.
-#[derive(Clone, Copy)]
+#[derive(Clone, Copy, Debug, PartialEq, Eq)]
 pub enum FileFault {
     Long,
     Ragged,
@@ -93,10 +93,8 @@ impl FileKind {
 pub(crate) fn first_word(bytes: &[u8]) -> Option<(u32, &[u8])>
     ensures { MatchOption result (words_of bytes.now ≡ []) (λ x. (words_of bytes.now ≡ x.0 ∷ words_of x.1.now) × (length x.1.now + 4 ≤ length bytes.now)) }
 {
-    let [a, b, c, d, rest @ ..] = bytes else {
-        return None;
-    };
-    Some((u32::from_be_bytes([*a, *b, *c, *d]), rest))
+    let (word, rest) = bytes.split_first_chunk::<4>()?;
+    Some((u32::from_be_bytes(*word), rest))
 }
 
 // Puts the words of the bytes into the row, and says how many.
@@ -105,14 +103,11 @@ pub(crate) fn fill(row: &mut [u32], bytes: &[u8]) -> usize
     ensures bound { result ≤ length row.new }
     ensures words { take result row.new ≡ words_of bytes.now }
 {
-    let mut n = 0;
-    let mut left = bytes;
-    while let Some((w, rest)) = first_word(left) {
-        row[n] = w;
-        n += 1;
-        left = rest;
+    let (words, _) = bytes.as_chunks::<4>();
+    for (n, word) in words.iter().enumerate() {
+        row[n] = u32::from_be_bytes(*word);
     }
-    n
+    words.len()
 }
 
 // A latency's number, in 28-bit two's complement.
@@ -152,8 +147,8 @@ fn link_entry(place: u32, w: u32, bytes: &[u8]) -> Result<Option<Entry<'_>>, Fil
 }
 
 fn walk_entry(place: u32, n: u32, bytes: &[u8]) -> Result<Option<Entry<'_>>, FileFault>
-    requires place_bound { place ≤ 65536 }
-    requires bytes_len_bound { length bytes.now ≤ 65536 }
+    requires place { place ≤ 65536 }
+    requires short { length bytes.now ≤ 65536 }
     ensures { found_of result ≡ walk_of place n (words_of bytes.now) }
 {
     if n > MAX_WALK {
@@ -197,8 +192,8 @@ fn word_entry(place: u32, w: u32) -> Result<Option<Entry<'static>>, FileFault>
 
 // The call that begins with the first of the bytes, which is word `place` of the file.
 pub(crate) fn entry_at(place: u32, bytes: &[u8]) -> Result<Option<Entry<'_>>, FileFault>
-    requires place_bound { place ≤ 65536 }
-    requires bytes_len_bound { length bytes.now ≤ 65536 }
+    requires place { place ≤ 65536 }
+    requires short { length bytes.now ≤ 65536 }
     ensures { found_of result ≡ entry_of place (words_of bytes.now) }
 {
     let Some((w, rest)) = first_word(bytes) else {
@@ -232,7 +227,7 @@ pub(crate) fn opened(kind: FileKind, bytes: &[u8]) -> Result<Option<Entry<'_>>, 
     entry_at(2, rest)
 }
 
-fn words_of(e: Entry<'_>) -> usize
+fn width_of(e: Entry<'_>) -> usize
     ensures { (result ≡ width (item_of e.entry)) × (result ≤ 2 ^ 63) }
 {
     match e {
@@ -246,7 +241,7 @@ fn words_of(e: Entry<'_>) -> usize
 pub(crate) fn words_taken(read: u32, e: Entry<'_>) -> usize
     ensures { result ≡ taken read (item_of e.entry) }
 {
-    let own = words_of(e);
+    let own = width_of(e);
     if read == 0 { 1 + own } else { own }
 }
 

@@ -21,7 +21,7 @@ use kind::Kind;
 use kinds::{PlaceLatency, Places, TickLatency, Ticks};
 
 // The report has no room for the next line; so many bytes of it are written.
-#[derive(Clone, Copy)]
+#[derive(Clone, Copy, Debug, PartialEq, Eq)]
 pub struct Full(pub usize);
 
 // The next line, on a row that is long enough.
@@ -35,10 +35,7 @@ fn line<K: Kind>(
     requires { 32768 ≤ length row.old }
     ensures { Told K.Kind.meaning (reading_of session.old.reader.at) (state_of K.Kind.meaning session.old.book.now.store) (lent_of totals.old numbers.old steps.old) (lent_of totals.new numbers.new steps.new) row.old row.new result (reading_of session.new.reader.at) (state_of K.Kind.meaning session.new.book.now.store) }
 {
-    match session.next(totals, numbers, steps, row) {
-        Ok(told) => told,
-        Err(_) => None,
-    }
+    session.next(totals, numbers, steps, row).unwrap_or(None)
 }
 
 fn finish<K: Kind>(
@@ -63,7 +60,7 @@ fn finish<K: Kind>(
 }
 
 // How far a report went: so many bytes of it are in its row, and whether it is over.
-#[derive(Clone, Copy)]
+#[derive(Clone, Copy, Debug, PartialEq, Eq)]
 pub struct Filled {
     pub bytes: usize,
     pub over: bool,

@@ -1,6 +1,4 @@
 ghost use Rattle.std.specs.Prelude.{◌≡◌, ◌+◌, ◌≤◌, [], ◌∷◌, length, decimal};
-ghost use Rattle.report.specs.Appending.{HasRoom, Appended};
-ghost use Rattle.report.specs.Lines.{hexes};
 
 use text::Text;
 
@@ -9,9 +7,13 @@ use text::Text;
 pub(crate) struct RowWriter<'r> {
     row: &'r mut [u8],
     len: usize,
+    ghost within_row: { len ≤ length row.now },
 }
 
 impl<'r> RowWriter<'r> {
+    ghost use Rattle.report.specs.Appending.{HasRoom, Appended};
+    ghost use Rattle.report.specs.Lines.{hexes};
+
     pub(crate) fn new(row: &'r mut [u8]) -> RowWriter<'r>
         ensures same_row { result.row.ghost_name ≡ row.entry.ghost_name }
         ensures value { result.row.now ≡ row.old }
@@ -29,7 +31,6 @@ impl<'r> RowWriter<'r> {
 
     // How many bytes the row has left.
     pub(crate) fn room(&self) -> usize
-        requires { HasRoom self.now 0 }
         ensures { self.now.len + result ≡ length self.now.row.now }
     {
         self.row.len() - self.len

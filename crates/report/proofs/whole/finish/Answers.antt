@@ -24,7 +24,6 @@ loop-l-smaller g c = let e = c.in-Some.ensures in step_less g.K.Kind.meaning _ _
 pub loop-l-preserved : goal.loop-l-preserved
 loop-l-preserved g c =
     let e = c.in-Some.ensures in record {
-      inside = omega (arith, c.text.ensures.wrote.ends, length-take-le c.in-Some.l.bytes c.line.new.row (step_within g.K.Kind.meaning _ _ _ _ _ _ _ _ _ e.1));
       same = still c.loop-l.invariant.same c.text.ensures.same;
       going = λ kind capacity text h.
           goes g.K.Kind.meaning kind capacity _ text _ _ _ _ _ _ _ _ _ _ _ _ (same_sizes _ _ _ _ _ _ c.loop-l.auto.totals c.loop-l.auto.numbers c.loop-l.auto.steps) _ _ _ _ (c.loop-l.invariant.going kind capacity text h) e.1 c.text.ensures.wrote;
