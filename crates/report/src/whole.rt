@@ -81,20 +81,14 @@ impl<'f, 'b, 'a, K: Kind> Session<'f, 'b, 'a, K> {
         ensures over { result.over ≡ true → ahead (reading_of self.new.reader.at) ≡ Good Nothing }
         ensures more { result.over ≡ false → length report.old < result.bytes + 32768 }
     {
-        let mut at = 0;
-        while report.len() - at >= LINE_ROOM {
-            let Some(l) = line(self, totals, numbers, steps, &mut report[at..]) else {
-                return Filled {
-                    bytes: at,
-                    over: true,
-                };
+        let mut bytes = 0;
+        while report.len() - bytes >= LINE_ROOM {
+            let Some(l) = line(self, totals, numbers, steps, &mut report[bytes..]) else {
+                return Filled { bytes, over: true };
             };
-            at += l.bytes;
+            bytes += l.bytes;
         }
-        Filled {
-            bytes: at,
-            over: false,
-        }
+        Filled { bytes, over: false }
     }
 }
 
