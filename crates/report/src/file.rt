@@ -272,6 +272,7 @@ pub(crate) fn words_taken(read: u32, e: Entry<'_>) -> usize
     if read == 0 { 1 + own } else { own }
 }
 
+// Where a reader stands in its file: what is left of it, how many words are read, and whether a fault has ended it.
 #[derive(Drop)]
 pub struct Place<'f> {
     pub kind: FileKind,

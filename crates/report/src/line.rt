@@ -24,6 +24,7 @@ impl RowWriter<'_> {
         self.number(j);
     }
 
+    // A call's name, and the number or the switches that it names.
     fn asked(&mut self, e: Entry<'_>)
         requires { HasRoom self.old 64 }
         ensures bound { self.new.len ≤ self.old.len + 64 }
@@ -54,6 +55,7 @@ impl RowWriter<'_> {
         }
     }
 
+    // Step words, a space before each.
     fn steps(&mut self, steps: &[u32])
         requires { HasRoom self.old (9 * length steps.now) }
         ensures bound { self.new.len ≡ self.old.len + 9 * length steps.now }
@@ -64,6 +66,7 @@ impl RowWriter<'_> {
         }
     }
 
+    // A refusal's number, and the steps that show why.
     fn refused(&mut self, x: Refused, steps: &[u32])
         requires room { HasRoom self.old 9300 }
         requires shown { (x.shown ≤ 1024) × (x.shown ≤ length steps.now) }
@@ -75,6 +78,7 @@ impl RowWriter<'_> {
         self.steps(&steps[..x.shown]);
     }
 
+    // A total as its kind prints it; within reach that is the text of the quantity that it means.
     fn total<K: Kind>(&mut self, t: &K::Total)
         requires { HasRoom self.old 28 }
         ensures same { SameRow self.old self.new }
@@ -97,6 +101,7 @@ impl RowWriter<'_> {
         }
     }
 
+    // OK, and what the call answers.
     fn good<K: Kind>(&mut self, good: Good<K::Total>, totals: &[K::Total])
         requires room { HasRoom self.old 30000 }
         requires few { GoodRoom good totals.now }
@@ -123,6 +128,7 @@ impl RowWriter<'_> {
         }
     }
 
+    // What follows the call in its line: OK or NO.
     fn told<K: Kind>(
         &mut self,
         reply: Result<Good<K::Total>, CallFault>,

@@ -36,6 +36,7 @@ impl<'r> RowWriter<'r> {
         self.row.len() - self.len
     }
 
+    // Puts the bytes as they are.
     pub(crate) fn text(&mut self, text: &[u8])
         requires { HasRoom self.old (length text.now) }
         ensures { Appended self.old text.now self.new }
@@ -45,6 +46,7 @@ impl<'r> RowWriter<'r> {
         self.len = end;
     }
 
+    // Puts a number in decimal digits.
     pub(crate) fn number(&mut self, n: u32)
         requires { HasRoom self.old 28 }
         ensures bound { self.new.len ≤ self.old.len + 28 }
@@ -53,7 +55,7 @@ impl<'r> RowWriter<'r> {
         self.text(Text::of_number(u64::from(n)).as_bytes());
     }
 
-    // A word in hexadecimal, with a space before it.
+    // Puts a space and a word in hexadecimal.
     pub(crate) fn word(&mut self, w: u32)
         requires { HasRoom self.old 9 }
         ensures bound { self.new.len ≡ self.old.len + 9 }

@@ -1,4 +1,4 @@
-use Rattle.std.proofs.Common.{◌≡◌, ℕ, zero, suc, ◌+◌, ◌-◌, ◌/◌, ◌%◌, ◌<◌, ◌≤◌, true, List, [], ◌∷◌, ◌++◌, length, drop, set, sym, refl, ◌∙◌, append_assoc, append-nil, arith, length-set}
+use Rattle.std.proofs.Common.{◌≡◌, ℕ, zero, suc, ◌+◌, ◌-◌, ◌/◌, ◌%◌, ◌<◌, ◌≤◌, true, List, [], ◌∷◌, ◌++◌, length, drop, set, sym, refl, ◌∙◌, append_assoc, arith, length-set}
 use Rattle.std.specs.Fmt.{digit_glyph}
 use Rattle.std.proofs.lemmas.List.{drop-set}
 use Rattle.text.specs.Writing.{hex}
@@ -19,9 +19,6 @@ all_digits : (k w : ℕ) (ds : List ℕ) → k ≤ 0 → hex k w ++ drop k ds �
 unfolding hex
 all_digits zero w ds h = refl
 all_digits (suc k) w ds h = absurd (omega arith)
-
-pub loop-i-init : goal.loop-i-init
-loop-i-init c = (refl, append-nil _)
 
 pub loop-i-preserved : goal.loop-i-preserved
 loop-i-preserved c = (
