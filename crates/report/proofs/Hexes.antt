@@ -1,13 +1,15 @@
--- One more word in hexadecimal.
-use Rattle.std.proofs.Common.{◌≡◌, ℕ, zero, suc, ◌+◌, ◌-◌, ◌/◌, ◌%◌, ◌<◌, ◌≤◌, true, List, [], ◌∷◌, ◌++◌, length, get_or, take, sym, refl, ap, ◌∙◌, subst, append_assoc, arith, length-append}
+-- One more word in hexadecimal, and rows of totals.
+use Rattle.std.proofs.Common.{◌≡◌, ℕ, zero, suc, ◌+◌, ◌-◌, ◌/◌, ◌%◌, ◌<◌, ◌≤◌, true, List, [], ◌∷◌, ◌++◌, length, get_or, take, codes, Ok, ◌⊎◌, inl, inr, sym, refl, ap, ◌∙◌, subst, append_assoc, arith, length-append}
 use Rattle.std.specs.Fmt.{digit_glyph}
 use Rattle.std.proofs.lemmas.List.{take_more, length-take-le, get_or-map, get_or-take}
-use Rattle.text.specs.Writing.{hex, Wrote}
+use Rattle.text.specs.Writing.{hex}
 use Rattle.kind.specs.Meaning.{Meaning}
 use Rattle.search.specs.Records.{On}
 use Rattle.search.specs.Settled.{offset}
-use Rattle.report.specs.Doing.{Near}
-use Rattle.report.specs.Lines.{hexes, Holds, listed}
+use Rattle.report.specs.declared.fault.Good.{Good}
+use Rattle.report.specs.declared.fault.Good.TheVariants.{Offsets, Schedule}
+use Rattle.report.specs.Doing.{Near, Backed, lent_of, outcome_of}
+use Rattle.report.specs.Lines.{hexes, Holds, listed, told}
 
 pub hexes-++ : (xs ys : List ℕ) → hexes (xs ++ ys) ≡ hexes xs ++ hexes ys
 hexes-++ [] ys = refl
@@ -43,10 +45,9 @@ module _ {L T : Type 0} (M : Meaning L T) (k : ℕ) (row : List T) (le : k ≤ l
   pub holds_carrying : Holds M (offset M (take k row)) (take k row)
   holds_carrying v o t = ((holds_least v o t).0, sym (get_or-map M.total (take k row) (v - 1) t M.quantities.zero (omega (arith, o.0, o.1))))
 
--- the bytes of the first k totals, whichever offsets they mean
-pub row_listed : {L T : Type 0} (M : Meaning L T) (c : ℕ → M.quantities.Q) (k n : ℕ) (ts : List T) (a b : List ℕ) (at end : ℕ) → k ≤ length ts → k ≡ n → Holds M c (take k ts)
-    → ((d : ℕ → M.quantities.Q) → Holds M d (take (k - 0) ts) → Wrote a at (listed M d (length (take (k - 0) ts))) b end) → Wrote a at (listed M c n) b end
-row_listed M c k n ts a b at end le e h w =
-    let z : k - 0 ≡ k = omega arith in
-    let l : length (take (k - 0) ts) ≡ n = ap (λ m. length (take m ts)) z ∙ length-take-le k ts le ∙ e in
-    subst (λ m. Wrote a at (listed M c m) b end) l (w c (subst (λ m. Holds M c (take m ts)) (sym z) h))
+-- the first k totals are listed alike as offsets that carry the links and as the least ones
+pub alike : {L T : Type 0} (M : Meaning L T) (k n : ℕ) (good : Good T) (row : List T) (ss : List ℕ) (Put : List ℕ → Type 0) → (good ≡ Offsets k) ⊎ (good ≡ Schedule k)
+    → ((c : ℕ → M.quantities.Q) → Holds M c (take k row) → Put (codes " OK" ++ listed M c (length (take k row))))
+    → Backed M n (Ok good) (lent_of row [] ss) → Put (told M n (outcome_of M (Ok good) (lent_of row [] ss)))
+alike M k n _ row ss Put (inl e) put = rw e (λ h. subst (λ m. Put (codes " OK" ++ listed M (offset M (take k row)) m)) (length-take-le k row h.2 ∙ h.0) (put _ (holds_carrying M k row h.2 h.3)))
+alike M k n _ row ss Put (inr e) put = rw e (λ h. subst (λ m. Put (codes " OK" ++ listed M (offset M row) m)) (length-take-le k row h.2 ∙ h.0) (put _ (holds_least M k row h.2 h.3)))

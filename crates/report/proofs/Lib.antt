@@ -5,3 +5,4 @@ mod Hexes
 mod Deeds
 mod Course
 mod Parts
+mod Appends

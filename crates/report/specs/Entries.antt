@@ -86,6 +86,10 @@ abbrev pub head_of : FileKind → ℕ
 head_of Ticks = 0x1000_0000
 head_of CyclePlaces = 0x1100_0000
 
+-- the kind whose head is the word
+abbrev pub headed_by : ℕ → Result FileKind FileFault
+headed_by w = cond (w == head_of Ticks) (Ok Ticks) (cond (w == head_of CyclePlaces) (Ok CyclePlaces) (Err NoHead))
+
 -- the kind of book that a file is worked on: cycle places if its first word says so
 abbrev pub kind_of : List ℕ → FileKind
 kind_of [] = Ticks

@@ -18,6 +18,12 @@ fault_number (File f) = file_number f
 fault_number (Call (Latency f)) = 1
 fault_number (Call (Book x)) = number_of x.refusal
 
+-- the word at fault, of a call that begins with word p
+abbrev pub call_place : ℕ → CallFault → ℕ
+call_place p (Latency Measured) = p + 1
+call_place p (Latency Wanted) = p + 2
+call_place p (Book x) = p
+
 -- A latency's fault is placed at its word, and a refusal at the call's first word, p.
 abbrev pub fault_of : {Q : Type 0} → ℕ → Outcome Q → Option Placed
 fault_of p (unmade Measured) = Some (record { fault = Call (Latency Measured); place = p + 1 })

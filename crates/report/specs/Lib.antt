@@ -6,3 +6,4 @@ pub mod Lines
 pub mod Faults
 pub mod History
 pub mod Coded
+pub mod Appending

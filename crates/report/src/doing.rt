@@ -1,11 +1,11 @@
-ghost use Rattle.std.specs.Prelude.{◌≡◌, ◌≤◌, length};
+ghost use Rattle.std.specs.Prelude.{◌≤◌, length};
 ghost use Rattle.book.specs.Memory.{state_of};
 ghost use Rattle.report.specs.Words.{words_of};
 ghost use Rattle.report.specs.Entries.{link, offset, all_offsets, realise, walk, item_of, width};
 ghost use Rattle.report.specs.Doing.{Did, Made, Lent, lent_of};
 
 use crate::fault::{CallFault, Good, LatencyFault};
-use crate::file::{Entry, fill};
+use crate::file::{Entry, MAX_WALK, fill};
 use book::{Book, Link};
 use kind::Kind;
 
@@ -13,12 +13,8 @@ use kind::Kind;
 fn latencies<K: Kind>(m: i32, w: i32) -> Result<(K::Latency, K::Latency), LatencyFault>
     ensures { Made K.Kind.meaning m w result }
 {
-    let Ok(measured) = K::latency(m) else {
-        return Err(LatencyFault::Measured);
-    };
-    let Ok(wanted) = K::latency(w) else {
-        return Err(LatencyFault::Wanted);
-    };
+    let measured = K::latency(m).map_err(|_| LatencyFault::Measured)?;
+    let wanted = K::latency(w).map_err(|_| LatencyFault::Wanted)?;
     Ok((measured, wanted))
 }
 
@@ -49,7 +45,7 @@ fn do_walk<K: Kind>(book: &Book<K>, bytes: &[u8]) -> Result<Good<K::Total>, Call
     requires { length (words_of bytes.now) ≤ 1024 }
     ensures { (m : Lent K.Total) → Did K.Kind.meaning (state_of K.Kind.meaning book.now.store) (walk (words_of bytes.now)) result (state_of K.Kind.meaning book.now.store) m m }
 {
-    let mut words = [0u32; 1024];
+    let mut words = [0u32; MAX_WALK as usize];
     let n = fill(&mut words, bytes);
     let (measured, wanted) = book.walk(&words[..n])?;
     Ok(Good::Totals(measured, wanted))

@@ -1,5 +1,5 @@
-ghost use Rattle.std.specs.Prelude.{◌≡◌};
-ghost use Rattle.report.specs.Faults.{fault_number};
+ghost use Rattle.std.specs.Prelude.{◌≡◌, ◌≤◌};
+ghost use Rattle.report.specs.Faults.{fault_number, call_place};
 ghost use Rattle.report.specs.declared.fault.CallFault.TheVariants.{Latency as OfLatency, Book as OfBook};
 
 use crate::file::FileFault;
@@ -7,7 +7,7 @@ use book::Refused;
 use calls::Refusal;
 
 // Which number of a LINK makes no latency.
-#[derive(Clone, Copy)]
+#[derive(Clone, Copy, Debug, PartialEq, Eq)]
 pub enum LatencyFault {
     Measured,
     Wanted,
@@ -69,6 +69,20 @@ impl From<Refusal> for CallFault {
             refusal: e,
             shown: 0,
         })
+    }
+}
+
+impl CallFault {
+    // The word at fault, of a call that begins with word `first`.
+    pub(crate) fn place(self, first: u32) -> u32
+        requires { first ≤ 65536 }
+        ensures { result ≡ call_place first self }
+    {
+        match self {
+            CallFault::Latency(LatencyFault::Measured) => first + 1,
+            CallFault::Latency(LatencyFault::Wanted) => first + 2,
+            CallFault::Book(_) => first,
+        }
     }
 }
 

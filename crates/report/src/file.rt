@@ -1,15 +1,39 @@
 ghost use Rattle.std.specs.Prelude.{◌≡◌, ◌+◌, ◌^◌, ◌≤◌, [], ◌∷◌, length, take, MatchOption};
-ghost use Rattle.report.specs.Words.{words_of, signed28};
-ghost use Rattle.report.specs.Entries.{opening, entry_of, word_of, bare_of, link_of, walk_of, item_of, found_of, width, taken, file_number, file_place, head_of, kind_of};
+ghost use Rattle.report.specs.Words.{words_of, sort, body, first, second, signed28};
+ghost use Rattle.report.specs.Entries.{opening, entry_of, word_of, bare_of, link_of, walk_of, item_of, found_of, width, taken, file_number, file_place, kind_of, headed_by};
 
 // A file of more bytes is refused whole.
 const MAX_FILE: usize = 65536;
 
 // A WALK in a file has at most so many words.
-const MAX_WALK: u32 = 1024;
+pub(crate) const MAX_WALK: u32 = 1024;
+
+// The sorts of words: bits 31 to 28.
+const SIZE: u32 = 2;
+
+const LINK: u32 = 3;
+
+const MEASURED: u32 = 4;
+
+const WANTED: u32 = 5;
+
+const STRIKE: u32 = 6;
+
+const OFFSET: u32 = 7;
+
+const WALK: u32 = 14;
+
+// The calls of one word, all of it fixed.
+const OFFSETS: u32 = 0x8000_0000;
+
+const REALISE: u32 = 0x9000_0000;
+
+const ISSUE: u32 = 0xC000_0000;
+
+const RECALL: u32 = 0xD000_0000;
 
 // The kind of latency that a head names.
-#[derive(Clone, Copy)]
+#[derive(Clone, Copy, Debug, PartialEq, Eq)]
 pub enum FileKind {
     Ticks,
     CyclePlaces,
@@ -31,7 +55,7 @@ pub enum Entry<'f> {
 }
 
 // What is wrong with the file itself. It ends the report.
-#[derive(Clone, Copy)]
+#[derive(Clone, Copy, Debug, PartialEq, Eq)]
 pub enum FileFault {
     Long,
     Ragged,
@@ -56,8 +80,7 @@ impl FileFault {
         ensures { result ≡ file_place self }
     {
         match self {
-            FileFault::Long => 0,
-            FileFault::Ragged => 0,
+            FileFault::Long | FileFault::Ragged => 0,
             FileFault::NoHead => 1,
             FileFault::Stray(p) => p,
         }
@@ -72,19 +95,21 @@ impl FileKind {
         let Some((w, _)) = first_word(file) else {
             return FileKind::Ticks;
         };
-        if w == FileKind::CyclePlaces.head() {
-            return FileKind::CyclePlaces;
-        }
-        FileKind::Ticks
+        FileKind::try_from(w).unwrap_or(FileKind::Ticks)
     }
+}
 
-    // The first word of a file of the kind.
-    pub(crate) fn head(self) -> u32
-        ensures { result ≡ head_of self }
-    {
-        match self {
-            FileKind::Ticks => 0x1000_0000,
-            FileKind::CyclePlaces => 0x1100_0000,
+// The kind whose files begin with the word.
+impl TryFrom<u32> for FileKind {
+    type Error = FileFault;
+
+    ghost try_from_gives = { λ w r. r ≡ headed_by w };
+
+    fn try_from(w: u32) -> Result<FileKind, FileFault> {
+        match w {
+            0x1000_0000 => Ok(FileKind::Ticks),
+            0x1100_0000 => Ok(FileKind::CyclePlaces),
+            _ => Err(FileFault::NoHead),
         }
     }
 }
@@ -93,10 +118,8 @@ impl FileKind {
 pub(crate) fn first_word(bytes: &[u8]) -> Option<(u32, &[u8])>
     ensures { MatchOption result (words_of bytes.now ≡ []) (λ x. (words_of bytes.now ≡ x.0 ∷ words_of x.1.now) × (length x.1.now + 4 ≤ length bytes.now)) }
 {
-    let [a, b, c, d, rest @ ..] = bytes else {
-        return None;
-    };
-    Some((u32::from_be_bytes([*a, *b, *c, *d]), rest))
+    let (word, rest) = bytes.split_first_chunk::<4>()?;
+    Some((u32::from_be_bytes(*word), rest))
 }
 
 // Puts the words of the bytes into the row, and says how many.
@@ -105,21 +128,37 @@ pub(crate) fn fill(row: &mut [u32], bytes: &[u8]) -> usize
     ensures bound { result ≤ length row.new }
     ensures words { take result row.new ≡ words_of bytes.now }
 {
-    let mut n = 0;
-    let mut left = bytes;
-    while let Some((w, rest)) = first_word(left) {
-        row[n] = w;
-        n += 1;
-        left = rest;
+    let (words, _) = bytes.as_chunks::<4>();
+    for (n, word) in words.iter().enumerate() {
+        row[n] = u32::from_be_bytes(*word);
     }
-    n
+    words.len()
+}
+
+fn sort(w: u32) -> u32
+    ensures { result ≡ sort w }
+{
+    w >> 28
+}
+
+fn body(w: u32) -> u32
+    ensures { result ≡ body w }
+{
+    w % 0x1000_0000
+}
+
+// The two switches that a word names, in 14 bits each.
+fn switches(w: u32) -> (u32, u32)
+    ensures { result ≡ (first w, second w) }
+{
+    (w / 0x4000 % 0x4000, w % 0x4000)
 }
 
 // A latency's number, in 28-bit two's complement.
 fn latency_number(w: u32) -> i32
     ensures { result ≡ signed28 w }
 {
-    let low = (w % 0x1000_0000) as i32;
+    let low = body(w) as i32;
     if low < 0x800_0000 {
         low
     } else {
@@ -131,29 +170,19 @@ fn link_entry(place: u32, w: u32, bytes: &[u8]) -> Result<Option<Entry<'_>>, Fil
     requires { place ≤ 65536 }
     ensures { found_of result ≡ link_of place w (words_of bytes.now) }
 {
-    let Some((m, rest)) = first_word(bytes) else {
-        return Err(FileFault::Stray(place + 1));
-    };
-    if m >> 28 != 4 {
-        return Err(FileFault::Stray(place + 1));
-    }
-    let Some((v, _)) = first_word(rest) else {
-        return Err(FileFault::Stray(place + 2));
-    };
-    if v >> 28 != 5 {
-        return Err(FileFault::Stray(place + 2));
-    }
-    Ok(Some(Entry::Link(
-        w / 16384 % 16384,
-        w % 16384,
-        latency_number(m),
-        latency_number(v),
-    )))
+    let (m, rest) = first_word(bytes)
+        .filter(|(m, _)| sort(*m) == MEASURED)
+        .ok_or(FileFault::Stray(place + 1))?;
+    let (v, _) = first_word(rest)
+        .filter(|(v, _)| sort(*v) == WANTED)
+        .ok_or(FileFault::Stray(place + 2))?;
+    let (i, j) = switches(w);
+    Ok(Some(Entry::Link(i, j, latency_number(m), latency_number(v))))
 }
 
 fn walk_entry(place: u32, n: u32, bytes: &[u8]) -> Result<Option<Entry<'_>>, FileFault>
-    requires place_bound { place ≤ 65536 }
-    requires bytes_len_bound { length bytes.now ≤ 65536 }
+    requires place { place ≤ 65536 }
+    requires short { length bytes.now ≤ 65536 }
     ensures { found_of result ≡ walk_of place n (words_of bytes.now) }
 {
     if n > MAX_WALK {
@@ -171,10 +200,10 @@ fn bare_entry(place: u32, w: u32) -> Result<Option<Entry<'static>>, FileFault>
     ensures { found_of result ≡ bare_of place w }
 {
     match w {
-        0x8000_0000 => Ok(Some(Entry::Offsets)),
-        0x9000_0000 => Ok(Some(Entry::Realise)),
-        0xC000_0000 => Ok(Some(Entry::Issue)),
-        0xD000_0000 => Ok(Some(Entry::Recall)),
+        OFFSETS => Ok(Some(Entry::Offsets)),
+        REALISE => Ok(Some(Entry::Realise)),
+        ISSUE => Ok(Some(Entry::Issue)),
+        RECALL => Ok(Some(Entry::Recall)),
         _ => Err(FileFault::Stray(place)),
     }
 }
@@ -183,34 +212,29 @@ fn bare_entry(place: u32, w: u32) -> Result<Option<Entry<'static>>, FileFault>
 fn word_entry(place: u32, w: u32) -> Result<Option<Entry<'static>>, FileFault>
     ensures { found_of result ≡ word_of place w }
 {
-    if w >> 28 == 2 {
-        return Ok(Some(Entry::Size(w % 0x1000_0000)));
+    let (i, j) = switches(w);
+    match sort(w) {
+        SIZE => Ok(Some(Entry::Size(body(w)))),
+        STRIKE => Ok(Some(Entry::Strike(i, j))),
+        OFFSET => Ok(Some(Entry::Offset(i, j))),
+        _ => bare_entry(place, w),
     }
-    if w >> 28 == 6 {
-        return Ok(Some(Entry::Strike(w / 16384 % 16384, w % 16384)));
-    }
-    if w >> 28 == 7 {
-        return Ok(Some(Entry::Offset(w / 16384 % 16384, w % 16384)));
-    }
-    bare_entry(place, w)
 }
 
 // The call that begins with the first of the bytes, which is word `place` of the file.
 pub(crate) fn entry_at(place: u32, bytes: &[u8]) -> Result<Option<Entry<'_>>, FileFault>
-    requires place_bound { place ≤ 65536 }
-    requires bytes_len_bound { length bytes.now ≤ 65536 }
+    requires place { place ≤ 65536 }
+    requires short { length bytes.now ≤ 65536 }
     ensures { found_of result ≡ entry_of place (words_of bytes.now) }
 {
     let Some((w, rest)) = first_word(bytes) else {
         return Ok(None);
     };
-    if w >> 28 == 3 {
-        return link_entry(place, w, rest);
+    match sort(w) {
+        LINK => link_entry(place, w, rest),
+        WALK => walk_entry(place, body(w), rest),
+        _ => word_entry(place, w),
     }
-    if w >> 28 == 14 {
-        return walk_entry(place, w % 0x1000_0000, rest);
-    }
-    word_entry(place, w)
 }
 
 // What the bytes of a whole file say first, where its head has to name the kind.
@@ -223,16 +247,14 @@ pub(crate) fn opened(kind: FileKind, bytes: &[u8]) -> Result<Option<Entry<'_>>, 
     if bytes.len() % 4 != 0 {
         return Err(FileFault::Ragged);
     }
-    let Some((w, rest)) = first_word(bytes) else {
-        return Err(FileFault::NoHead);
-    };
-    if w != kind.head() {
+    let (w, rest) = first_word(bytes).ok_or(FileFault::NoHead)?;
+    if FileKind::try_from(w)? != kind {
         return Err(FileFault::NoHead);
     }
     entry_at(2, rest)
 }
 
-fn words_of(e: Entry<'_>) -> usize
+fn width_of(e: Entry<'_>) -> usize
     ensures { (result ≡ width (item_of e.entry)) × (result ≤ 2 ^ 63) }
 {
     match e {
@@ -246,10 +268,11 @@ fn words_of(e: Entry<'_>) -> usize
 pub(crate) fn words_taken(read: u32, e: Entry<'_>) -> usize
     ensures { result ≡ taken read (item_of e.entry) }
 {
-    let own = words_of(e);
+    let own = width_of(e);
     if read == 0 { 1 + own } else { own }
 }
 
+// Where a reader stands in its file: what is left of it, how many words are read, and whether a fault has ended it.
 #[derive(Drop)]
 pub struct Place<'f> {
     pub kind: FileKind,

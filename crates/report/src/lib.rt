@@ -7,6 +7,7 @@ mod line;
 mod reader;
 mod session;
 mod whole;
+mod writer;
 
 pub use self::fault::{CallFault, Fault, LatencyFault, Placed};
 pub use self::file::{FileFault, FileKind};

@@ -7,7 +7,7 @@ ghost use Rattle.report.specs.Faults.{reply_fault};
 ghost use Rattle.report.specs.History.{Step, Next};
 
 use crate::doing::perform;
-use crate::fault::{CallFault, Fault, Good as Reply, LatencyFault, Placed};
+use crate::fault::{CallFault, Fault, Good as Reply, Placed};
 use crate::file::{Entry, FileFault, FileKind};
 use crate::line::{show, show_fault};
 use crate::reader::Reader;
@@ -18,7 +18,7 @@ use kind::Kind;
 pub const LINE_ROOM: usize = 32768;
 
 // A line row of fewer than 32,768 bytes: refusal 10.
-#[derive(Clone, Copy)]
+#[derive(Clone, Copy, Debug, PartialEq, Eq)]
 pub struct ShortLine;
 
 // A line of the report: how many bytes it has, and the fault that it tells, if it tells one.
@@ -33,21 +33,11 @@ fn fault_in<T: Copy>(first: u32, reply: Result<Reply<T>, CallFault>) -> Option<P
     requires { first ≤ 65536 }
     ensures { result ≡ reply_fault first reply }
 {
-    match reply {
-        Ok(_) => None,
-        Err(CallFault::Latency(LatencyFault::Measured)) => Some(Placed {
-            fault: Fault::Call(CallFault::Latency(LatencyFault::Measured)),
-            place: first + 1,
-        }),
-        Err(CallFault::Latency(LatencyFault::Wanted)) => Some(Placed {
-            fault: Fault::Call(CallFault::Latency(LatencyFault::Wanted)),
-            place: first + 2,
-        }),
-        Err(CallFault::Book(x)) => Some(Placed {
-            fault: Fault::Call(CallFault::Book(x)),
-            place: first,
-        }),
-    }
+    let fault = reply.err()?;
+    Some(Placed {
+        fault: Fault::Call(fault),
+        place: fault.place(first),
+    })
 }
 
 // A file at work on one book.
@@ -90,8 +80,8 @@ impl<'f, 'b, 'a, K: Kind> Session<'f, 'b, 'a, K> {
         steps: &mut [u32],
         row: &mut [u8],
     ) -> Line
-        requires at_value { ahead (reading_of self.old.reader.at) ≡ Good (There (item_of e)) }
-        requires in_bounds { 32768 ≤ length row.old }
+        requires next { ahead (reading_of self.old.reader.at) ≡ Good (There (item_of e)) }
+        requires room { 32768 ≤ length row.old }
         ensures { Step K.Kind.meaning (reading_of self.old.reader.at) (state_of K.Kind.meaning self.old.book.now.store) (lent_of totals.old numbers.old steps.old) (lent_of totals.new numbers.new steps.new) row.old row.new result (reading_of self.new.reader.at) (state_of K.Kind.meaning self.new.book.now.store) }
     {
         let first = self.first_word();
@@ -132,12 +122,10 @@ impl<'f, 'b, 'a, K: Kind> Session<'f, 'b, 'a, K> {
     ) -> Result<Option<Line>, ShortLine>
         ensures { Next K.Kind.meaning (reading_of self.old.reader.at) (state_of K.Kind.meaning self.old.book.now.store) (lent_of totals.old numbers.old steps.old) (lent_of totals.new numbers.new steps.new) row.old row.new result (reading_of self.new.reader.at) (state_of K.Kind.meaning self.new.book.now.store) }
     {
-        let found = match self.peek() {
-            Ok(found) => found,
+        let e = match self.peek() {
+            Ok(Some(e)) => e,
+            Ok(None) => return Ok(None),
             Err(f) => return self.fail(f, row),
-        };
-        let Some(e) = found else {
-            return Ok(None);
         };
         if row.len() < LINE_ROOM {
             return Err(ShortLine);

@@ -14,14 +14,14 @@ ghost use Rattle.report.specs.declared.file.FileKind.{FileKind as Sort};
 ghost use Rattle.report.specs.declared.file.FileKind.TheVariants.{Ticks as OfTicks, CyclePlaces as OfPlaces};
 
 use crate::file::FileKind;
-use crate::line::put_text;
 use crate::session::{LINE_ROOM, Line, Session};
+use crate::writer::RowWriter;
 use book::{Book, Link};
 use kind::Kind;
 use kinds::{PlaceLatency, Places, TickLatency, Ticks};
 
 // The report has no room for the next line; so many bytes of it are written.
-#[derive(Clone, Copy)]
+#[derive(Clone, Copy, Debug, PartialEq, Eq)]
 pub struct Full(pub usize);
 
 // The next line, on a row that is long enough.
@@ -35,10 +35,7 @@ fn line<K: Kind>(
     requires { 32768 ≤ length row.old }
     ensures { Told K.Kind.meaning (reading_of session.old.reader.at) (state_of K.Kind.meaning session.old.book.now.store) (lent_of totals.old numbers.old steps.old) (lent_of totals.new numbers.new steps.new) row.old row.new result (reading_of session.new.reader.at) (state_of K.Kind.meaning session.new.book.now.store) }
 {
-    match session.next(totals, numbers, steps, row) {
-        Ok(told) => told,
-        Err(_) => None,
-    }
+    session.next(totals, numbers, steps, row).unwrap_or(None)
 }
 
 fn finish<K: Kind>(
@@ -52,18 +49,18 @@ fn finish<K: Kind>(
     requires { 32768 ≤ length row.old }
     ensures { (sort : Sort) (capacity : ℕ) (text : List ℕ) → History K.Kind.meaning sort capacity (rows_of totals.old numbers.old steps.old) text [] Nothing (reading_of session.old.reader.at) (state_of K.Kind.meaning session.old.book.now.store) → Reported K.Kind.meaning sort capacity (rows_of totals.old numbers.old steps.old) text report.old report.new result }
 {
-    let mut at = 0;
+    let mut written = RowWriter::new(report);
     while let Some(l) = line(session, totals, numbers, steps, row) {
-        if report.len() - at < l.bytes {
-            return Err(Full(at));
+        if written.room() < l.bytes {
+            return Err(Full(written.len()));
         }
-        at = put_text(report, at, &row[..l.bytes]);
+        written.text(&row[..l.bytes]);
     }
-    Ok(at)
+    Ok(written.len())
 }
 
 // How far a report went: so many bytes of it are in its row, and whether it is over.
-#[derive(Clone, Copy)]
+#[derive(Clone, Copy, Debug, PartialEq, Eq)]
 pub struct Filled {
     pub bytes: usize,
     pub over: bool,
@@ -84,20 +81,14 @@ impl<'f, 'b, 'a, K: Kind> Session<'f, 'b, 'a, K> {
         ensures over { result.over ≡ true → ahead (reading_of self.new.reader.at) ≡ Good Nothing }
         ensures more { result.over ≡ false → length report.old < result.bytes + 32768 }
     {
-        let mut at = 0;
-        while report.len() - at >= LINE_ROOM {
-            let Some(l) = line(self, totals, numbers, steps, &mut report[at..]) else {
-                return Filled {
-                    bytes: at,
-                    over: true,
-                };
+        let mut bytes = 0;
+        while report.len() - bytes >= LINE_ROOM {
+            let Some(l) = line(self, totals, numbers, steps, &mut report[bytes..]) else {
+                return Filled { bytes, over: true };
             };
-            at += l.bytes;
+            bytes += l.bytes;
         }
-        Filled {
-            bytes: at,
-            over: false,
-        }
+        Filled { bytes, over: false }
     }
 }
 

@@ -1,9 +1,9 @@
-use Rattle.std.proofs.Common.{arith}
-use Rattle.text.proofs.Writes.{then}
+use Rattle.std.proofs.Common.{rules}
+use Rattle.report.proofs.Appends.{then, whole}
 use Rattle.report.proofs.line.show.Goals as goal
 
-pub returns : goal.returns
-returns g c = record {
-  bound = omega arith;
-  wrote = λ n h. then c.put_asked-a.ensures.wrote (then (c.put_told-b.ensures.wrote n h) c.put_text.ensures.wrote);
-}
+pub returns-clause-wrote : goal.returns-clause-wrote
+returns-clause-wrote g c n h =
+    let p = then c.asked.ensures.wrote (then (c.told.ensures.wrote n h) c.text.ensures) in
+    let s = p.same.name in
+    whole _ _ _ _ _ _ p c.new-line.ensures.value c.new-line.ensures.empty (search rules) c.len.ensures

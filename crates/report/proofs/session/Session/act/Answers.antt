@@ -12,12 +12,12 @@ use Rattle.report.proofs.Deeds.{told_fault, roomy, numberless, same_outcome}
 use Rattle.report.proofs.session.Session.act.Goals as goal
 
 pub perform-reply-requires : goal.perform-reply-requires
-perform-reply-requires g c = ahead_short (reading_of c.args.self.now.reader.at) (item_of c.args.e) c.requires.at_value
+perform-reply-requires g c = ahead_short (reading_of c.args.self.now.reader.at) (item_of c.args.e) c.requires.next
 
 pub show-bytes-requires : goal.show-bytes-requires
 show-bytes-requires g c = record {
-  in_bounds = c.requires.in_bounds;
-  room = roomy g.K.Kind.meaning _ c.perform-reply.result c.perform-reply.new.totals c.perform-reply.new.numbers c.perform-reply.new.steps c.perform-reply.ensures.backed;
+  room = c.requires.room;
+  few = roomy g.K.Kind.meaning _ c.perform-reply.result c.perform-reply.new.totals c.perform-reply.new.numbers c.perform-reply.new.steps c.perform-reply.ensures.backed;
 }
 
 pub returns : goal.returns
@@ -31,5 +31,5 @@ returns g c =
     let n = (state_of M c.args.self.now.book.now.store).n in
     let w = c.show-bytes.ensures.wrote n (numberless M n r ts ns ss d.backed) in
     rw c.pass.ensures
-    (did (item_of c.args.e) (outcome_of M r (lent_of ts ns ss)) _ c.requires.at_value d.does (subst (λ o. Wrote c.args.row.now 0 (line_of M n (item_of c.args.e) o) c.show-bytes.new.row c.show-bytes.result) (same_outcome M r ts ns ss) w)
+    (did (item_of c.args.e) (outcome_of M r (lent_of ts ns ss)) _ c.requires.next d.does (subst (λ o. Wrote c.args.row.now 0 (line_of M n (item_of c.args.e) o) c.show-bytes.new.row c.show-bytes.result) (same_outcome M r ts ns ss) w)
     (c.fault_in.ensures ∙ ap (λ p. reply_fault p r) c.first_word-first.ensures.value ∙ told_fault M _ n r (lent_of ts ns ss) d.backed) d.left)

@@ -12,7 +12,7 @@ loop-report-init g c = (omega arith, λ kind capacity text h f x. started g.K.Ki
 pub returns-in_default : goal.returns-in_default
 returns-in_default g c =
     let e = c.in_default.ensures in
-    let at = c.loop-report.at in
+    let at = c.loop-report.bytes in
     let b = c.loop-report.report in
     let back : put_mid at (length b - at) b c.line.new.row ≡ b = ap (put_mid at (length b - at) b) e.1 ∙ put_same at (length b - at) b in
     record {
@@ -24,12 +24,12 @@ returns-in_default g c =
       more = λ q. let z : ◌≡◌ {A = ℕ} 0 1 = cc in absurd (omega arith);
     }
 
-pub overflow_add-at : goal.overflow_add-at
-overflow_add-at g c =
+pub overflow_add-bytes : goal.overflow_add-bytes
+overflow_add-bytes g c =
     let e = c.in-Some.ensures in
     let l = step_within g.K.Kind.meaning _ _ _ _ _ _ _ _ _ e.1 in
     let k = c.line.auto.row in
-    let at = c.loop-report.at in
+    let at = c.loop-report.bytes in
     let b = c.loop-report.report in
     let m = mid_len at (length b) b (omega arith) in
     let h : at + c.in-Some.l.bytes ≤ length b = omega (arith, c.loop-report.invariant.0) in
@@ -43,7 +43,7 @@ loop-report-preserved g c =
     let e = c.in-Some.ensures in
     let l = step_within g.K.Kind.meaning _ _ _ _ _ _ _ _ _ e.1 in
     let k = c.line.auto.row in
-    let at = c.loop-report.at in
+    let at = c.loop-report.bytes in
     let b = c.loop-report.report in
     let row' = c.line.new.row in
     let m = mid_len at (length b) b (omega arith) in

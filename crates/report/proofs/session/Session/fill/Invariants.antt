@@ -11,10 +11,10 @@ use Rattle.report.proofs.session.Session.fill.Given as goal
 
 abbrev pub invariant-loop-report : goal.invariant-loop-report
 invariant-loop-report g l =
-    (l.at ≤ length l.report)
+    (l.bytes ≤ length l.report)
     × ((kind : FileKind) (capacity : ℕ) (text : List ℕ) (h : List (Item × Outcome g.K.Kind.meaning.quantities.Q × ℕ)) (f : Option FileFault)
     → History g.K.Kind.meaning kind capacity (rows_of l.initial.totals l.initial.numbers l.initial.steps) text h f (reading_of l.initial.self.reader.at) (state_of g.K.Kind.meaning l.initial.self.book.now.store)
-    → Going g.K.Kind.meaning kind capacity (rows_of l.initial.totals l.initial.numbers l.initial.steps) text h f (reading_of l.self.reader.at) (state_of g.K.Kind.meaning l.self.book.now.store) l.initial.report l.report l.at)
+    → Going g.K.Kind.meaning kind capacity (rows_of l.initial.totals l.initial.numbers l.initial.steps) text h f (reading_of l.self.reader.at) (state_of g.K.Kind.meaning l.self.book.now.store) l.initial.report l.report l.bytes)
 
 abbrev pub decreases-loop-report : goal.decreases-loop-report
 decreases-loop-report g l = left (reading_of l.self.reader.at)

@@ -1,6 +1,0 @@
-use Rattle.std.proofs.Common.{arith}
-use Rattle.text.proofs.Writes.{then}
-use Rattle.report.proofs.line.put_single.Goals as goal
-
-pub returns : goal.returns
-returns g c = record { bound = omega arith; wrote = λ h. then c.put_text-a.ensures.wrote (c.put_total.ensures.wrote h) }
