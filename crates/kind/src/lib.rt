@@ -6,18 +6,18 @@ ghost use Rattle.kind.specs.Meaning.{Meaning};
 
 use text::Text;
 
-// The number is no latency of the kind: refusal 1.
+/// The number is no latency of the kind: refusal 1.
 #[derive(Clone, Copy, Debug, PartialEq, Eq)]
 pub struct NoLatency;
 
-// A kind of latency: what links are measured in. Its totals are sums of latencies; a total within reach r is one
-// of at most r latencies, and sums are kept right up to a reach of 16,777,216.
+/// A kind of latency: what links are measured in. Its totals are sums of latencies; a total within reach r is one
+/// of at most r latencies, and sums are kept right up to a reach of 16,777,216.
 pub trait Kind {
     type Latency: Copy;
 
     type Total: Copy;
 
-    // how many words of a file make one latency
+    /// how many words of a file make one latency
     const WORDS: usize;
 
     ghost meaning: { Meaning Self.Latency Self.Total };
@@ -28,7 +28,7 @@ pub trait Kind {
     fn zero() -> Self::Total
         ensures { (meaning.total result ≡ meaning.quantities.zero) × meaning.within 0 result };
 
-    // A latency as a total.
+    /// A latency as a total.
     fn of(l: &Self::Latency) -> Self::Total
         ensures { (meaning.total result ≡ meaning.latency l.now) × meaning.within 1 result };
 
@@ -38,7 +38,7 @@ pub trait Kind {
     fn negated(a: &Self::Total) -> Self::Total
         ensures { (i : ℕ) → meaning.within i a.now → i ≤ 16777216 → (meaning.total result ≡ meaning.quantities.minus (meaning.total a.now)) × meaning.within i result };
 
-    // Whether two totals mean the same quantity.
+    /// Whether two totals mean the same quantity.
     fn same(a: &Self::Total, b: &Self::Total) -> bool
         ensures yes { meaning.within 16777216 a.now → meaning.within 16777216 b.now → result ≡ true → meaning.total a.now ≡ meaning.total b.now }
         ensures no { meaning.within 16777216 a.now → meaning.within 16777216 b.now → meaning.total a.now ≡ meaning.total b.now → result ≡ true };
@@ -49,7 +49,7 @@ pub trait Kind {
     fn is_ordered() -> bool
         ensures { result ≡ meaning.ordered };
 
-    // The bytes that a total is printed as.
+    /// The bytes that a total is printed as.
     fn text(t: &Self::Total) -> Text
         ensures { meaning.within 16777216 t.now → bytes_of result ≡ meaning.text (meaning.total t.now) };
 }

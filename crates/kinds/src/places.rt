@@ -7,10 +7,10 @@ const CYCLE: u32 = 1000;
 
 const LAST: u32 = CYCLE - 1;
 
-// Latency as a place of a cycle of 1,000: sums go around, and no place is below another.
+/// Latency as a place of a cycle of 1,000: sums go around, and no place is below another.
 pub struct Places;
 
-// Whatever it stores, it means a place: the last one for a number past it.
+/// Whatever it stores, it means a place: the last one for a number past it.
 #[derive(Clone, Copy, Debug, PartialEq, Eq)]
 pub struct PlaceLatency {
     place: u32,

@@ -5,10 +5,10 @@ use text::Text;
 
 const LIMIT: i32 = 100_000_000;
 
-// Latency in whole ticks, ordered by size.
+/// Latency in whole ticks, ordered by size.
 pub struct Ticks;
 
-// Whatever it stores, it means the nearest number from -LIMIT to LIMIT.
+/// Whatever it stores, it means the nearest number from -LIMIT to LIMIT.
 #[derive(Clone, Copy, Debug, PartialEq, Eq)]
 pub struct TickLatency {
     number: i32,

@@ -15,7 +15,7 @@ const BACKWARD: u32 = 0xB000_0000;
 
 const POSITIONS: usize = 0x1000_0000;
 
-// One step of a walk: over the link at a position, from its sender to its receiver, or back.
+/// One step of a walk: over the link at a position, from its sender to its receiver, or back.
 #[derive(Clone, Copy, Debug, PartialEq, Eq)]
 pub enum Step {
     Forward(usize),
@@ -23,7 +23,7 @@ pub enum Step {
 }
 
 impl Step {
-    // The same link passed the other way.
+    /// The same link passed the other way.
     pub fn reversed(self) -> Step
         ensures { result ≡ reverse self }
     {
@@ -33,7 +33,7 @@ impl Step {
         }
     }
 
-    // The position of the link that is passed.
+    /// The position of the link that is passed.
     pub fn place(self) -> usize
         ensures { result ≡ place self }
     {
@@ -42,7 +42,7 @@ impl Step {
         }
     }
 
-    // The step's word, from which it is read back.
+    /// The step's word, from which it is read back.
     pub fn word(self) -> u32
         ensures word { place self < 268435456 → result ≡ word self }
         ensures back { place self < 268435456 → decode result ≡ Some self }
@@ -55,7 +55,7 @@ impl Step {
     }
 }
 
-// The word stands for no step.
+/// The word stands for no step.
 #[derive(Clone, Copy, Debug, PartialEq, Eq)]
 pub struct NotAStep;
 
@@ -75,7 +75,7 @@ impl TryFrom<u32> for Step {
     }
 }
 
-// What holds of every list of links, in every kind.
+/// What holds of every list of links, in every kind.
 pub fn theory_stands<K: Kind>() -> u8
     ensures { (links : List (Link K.Kind.meaning.quantities.Q)) → Theory K.Kind.meaning.quantities links }
 {

@@ -6,14 +6,14 @@ use crate::file::FileFault;
 use book::Refused;
 use calls::Refusal;
 
-// Which number of a LINK makes no latency.
+/// Which number of a LINK makes no latency.
 #[derive(Clone, Copy, Debug, PartialEq, Eq)]
 pub enum LatencyFault {
     Measured,
     Wanted,
 }
 
-// What a call of a file is turned down for: before the book is called, or by the book.
+/// What a call of a file is turned down for: before the book is called, or by the book.
 #[derive(Clone, Copy)]
 pub enum CallFault {
     Latency(LatencyFault),
@@ -26,14 +26,14 @@ pub enum Fault {
     Call(CallFault),
 }
 
-// A fault and its place: the number, from 1, of the word at fault, or 0 where it is the file as a whole.
+/// A fault and its place: the number, from 1, of the word at fault, or 0 where it is the file as a whole.
 #[derive(Clone, Copy)]
 pub struct Placed {
     pub fault: Fault,
     pub place: u32,
 }
 
-// What a call answers that is not turned down.
+/// What a call answers that is not turned down.
 #[derive(Clone, Copy)]
 pub enum Good<T> {
     Done,
@@ -87,7 +87,7 @@ impl CallFault {
 }
 
 impl Fault {
-    // The number that reports print.
+    /// The number that reports print.
     pub fn number(self) -> u32
         ensures { result ≡ fault_number self }
     {

@@ -32,14 +32,14 @@ const ISSUE: u32 = 0xC000_0000;
 
 const RECALL: u32 = 0xD000_0000;
 
-// The kind of latency that a head names.
+/// The kind of latency that a head names.
 #[derive(Clone, Copy, Debug, PartialEq, Eq)]
 pub enum FileKind {
     Ticks,
     CyclePlaces,
 }
 
-// A call of a file, with the numbers that its words hold.
+/// A call of a file, with the numbers that its words hold.
 #[derive(Clone, Copy)]
 pub enum Entry<'f> {
     Size(u32),
@@ -54,7 +54,7 @@ pub enum Entry<'f> {
     Walk(&'f [u8]),
 }
 
-// What is wrong with the file itself. It ends the report.
+/// What is wrong with the file itself. It ends the report.
 #[derive(Clone, Copy, Debug, PartialEq, Eq)]
 pub enum FileFault {
     Long,
@@ -88,7 +88,7 @@ impl FileFault {
 }
 
 impl FileKind {
-    // The kind that a file's head names; ticks where it names none, and the file then has a fault in either kind.
+    /// The kind that a file's head names; ticks where it names none, and the file then has a fault in either kind.
     pub fn of(file: &[u8]) -> FileKind
         ensures { result ≡ kind_of (words_of file.now) }
     {
@@ -272,7 +272,7 @@ pub(crate) fn words_taken(read: u32, e: Entry<'_>) -> usize
     if read == 0 { 1 + own } else { own }
 }
 
-// Where a reader stands in its file: what is left of it, how many words are read, and whether a fault has ended it.
+/// Where a reader stands in its file: what is left of it, how many words are read, and whether a fault has ended it.
 #[derive(Drop)]
 pub struct Place<'f> {
     pub kind: FileKind,

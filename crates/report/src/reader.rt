@@ -4,7 +4,7 @@ ghost use Rattle.report.specs.Reading.{reading_of, unread, ahead, past, shut, fi
 
 use crate::file::{Entry, FileFault, FileKind, Place, entry_at, opened, words_taken};
 
-// Reads a file call by call: `peek` tells the next one, `pass` goes on behind it.
+/// Reads a file call by call: `peek` tells the next one, `pass` goes on behind it.
 #[derive(Drop)]
 pub struct Reader<'f> {
     at: Place<'f>,

@@ -14,14 +14,14 @@ use crate::reader::Reader;
 use book::Book;
 use kind::Kind;
 
-// A line row has to have so many bytes.
+/// A line row has to have so many bytes.
 pub const LINE_ROOM: usize = 32768;
 
-// A line row of fewer than 32,768 bytes: refusal 10.
+/// A line row of fewer than 32,768 bytes: refusal 10.
 #[derive(Clone, Copy, Debug, PartialEq, Eq)]
 pub struct ShortLine;
 
-// A line of the report: how many bytes it has, and the fault that it tells, if it tells one.
+/// A line of the report: how many bytes it has, and the fault that it tells, if it tells one.
 #[derive(Clone, Copy)]
 pub struct Line {
     pub bytes: usize,
@@ -40,7 +40,7 @@ fn fault_in<T: Copy>(first: u32, reply: Result<Reply<T>, CallFault>) -> Option<P
     })
 }
 
-// A file at work on one book.
+/// A file at work on one book.
 #[derive(Drop)]
 pub struct Session<'f, 'b, 'a, K: Kind> {
     reader: Reader<'f>,
@@ -48,7 +48,7 @@ pub struct Session<'f, 'b, 'a, K: Kind> {
 }
 
 impl<'f, 'b, 'a, K: Kind> Session<'f, 'b, 'a, K> {
-    // Begins a file, whose head has to name the kind.
+    /// Begins a file, whose head has to name the kind.
     pub fn open(kind: FileKind, file: &'f [u8], book: &'b mut Book<'a, K>) -> Session<'f, 'b, 'a, K>
         ensures reading { reading_of result.reader.at ≡ unread kind file.now }
         ensures book { result.book.now ≡ book.old }
@@ -112,7 +112,7 @@ impl<'f, 'b, 'a, K: Kind> Session<'f, 'b, 'a, K> {
         }))
     }
 
-    // Does the next call of the file, and writes its line to the start of the row; None where no call is left.
+    /// Does the next call of the file, and writes its line to the start of the row; None where no call is left.
     pub fn next(
         &mut self,
         totals: &mut [K::Total],

@@ -20,7 +20,7 @@ use book::{Book, Link};
 use kind::Kind;
 use kinds::{PlaceLatency, Places, TickLatency, Ticks};
 
-// The report has no room for the next line; so many bytes of it are written.
+/// The report has no room for the next line; so many bytes of it are written.
 #[derive(Clone, Copy, Debug, PartialEq, Eq)]
 pub struct Full(pub usize);
 
@@ -59,7 +59,7 @@ fn finish<K: Kind>(
     Ok(written.len())
 }
 
-// How far a report went: so many bytes of it are in its row, and whether it is over.
+/// How far a report went: so many bytes of it are in its row, and whether it is over.
 #[derive(Clone, Copy, Debug, PartialEq, Eq)]
 pub struct Filled {
     pub bytes: usize,
@@ -67,8 +67,8 @@ pub struct Filled {
 }
 
 impl<'f, 'b, 'a, K: Kind> Session<'f, 'b, 'a, K> {
-    // Does the next calls of the file and writes their lines one after another, as long as the row has room for a
-    // line of any length. It is called again for the lines that follow.
+    /// Does the next calls of the file and writes their lines one after another, as long as the row has room for a
+    /// line of any length. It is called again for the lines that follow.
     pub fn fill(
         &mut self,
         totals: &mut [K::Total],
@@ -110,8 +110,8 @@ fn run<K: Kind>(
     finish(&mut session, totals, numbers, steps, &mut row, report)
 }
 
-// Works a whole file on one new book of the kind that its head names: tick books and cycle books have rows of their
-// own, of which only the one kind's are used.
+/// Works a whole file on one new book of the kind that its head names: tick books and cycle books have rows of their
+/// own, of which only the one kind's are used.
 pub fn run_file(
     file: &[u8],
     tick_links: &mut [Link<TickLatency>],
@@ -147,7 +147,7 @@ pub fn run_file(
     }
 }
 
-// The words of a call are read back as the call.
+/// The words of a call are read back as the call.
 pub fn format_stands() -> u8
     ensures { ReadsBack }
 {

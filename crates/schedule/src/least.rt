@@ -37,8 +37,8 @@ fn solve<K: Kind>(
     Err(Unrealisable { steps: m })
 }
 
-// The least offsets that are not below zero and leave every link's measured latency at zero or above, in the first n
-// totals; or, where no offsets do, the steps of a loop below zero.
+/// The least offsets that are not below zero and leave every link's measured latency at zero or above, in the first n
+/// totals; or, where no offsets do, the steps of a loop below zero.
 pub fn least_offsets<K: Kind>(
     net: &Network<'_, K::Latency>,
     totals: &mut [K::Total],

@@ -36,8 +36,8 @@ fn difference<K: Kind>(
     Ok(offsets[j as usize - 1])
 }
 
-// What the links tell of the offsets between switches i and j, the second's less the first's, over rows of which only
-// what n switches need is touched.
+/// What the links tell of the offsets between switches i and j, the second's less the first's, over rows of which only
+/// what n switches need is touched.
 pub fn offset_between<K: Kind>(
     net: &Network<'_, K::Latency>,
     i: u32,
@@ -77,8 +77,8 @@ fn grounded<K: Kind>(
     }
 }
 
-// Writes offsets that carry the links, zero at the lowest switch of every group, over rows of which only what n switches
-// need is touched.
+/// Writes offsets that carry the links, zero at the lowest switch of every group, over rows of which only what n switches
+/// need is touched.
 pub fn grounded_offsets<K: Kind>(
     net: &Network<'_, K::Latency>,
     totals: &mut [K::Total],

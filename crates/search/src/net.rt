@@ -3,7 +3,7 @@ ghost use Rattle.search.specs.Records.{Sound};
 
 use crate::link::Link;
 
-// The links between the switches 1 to n of a network.
+/// The links between the switches 1 to n of a network.
 #[derive(Drop)]
 pub struct Network<'l, L> {
     pub links: &'l [Link<L>],

@@ -108,7 +108,7 @@ fn judge<K: Kind>(
     })
 }
 
-// The verdict on a new link, over rows of which only what n switches need is touched.
+/// The verdict on a new link, over rows of which only what n switches need is touched.
 pub fn link_verdict<K: Kind>(
     net: &Network<'_, K::Latency>,
     new: &Link<K::Latency>,

@@ -8,7 +8,7 @@ use itoa::Buffer;
 // A printed number has at most so many bytes: a line of 1,024 of them has to fit its row.
 const LIMIT: usize = 28;
 
-// The bytes of one printed number.
+/// The bytes of one printed number.
 #[derive(Clone, Copy)]
 pub struct Text {
     bytes: [u8; LIMIT],
@@ -19,21 +19,21 @@ pub struct Text {
 impl Text {
     ghost use Rattle.text.specs.Writing.{hex, bytes_of};
 
-    // A number in decimal digits, with no leading zero.
+    /// A number in decimal digits, with no leading zero.
     pub fn of_number(n: u64) -> Text
         ensures { bytes_of result ≡ decimal n }
     {
         Text::of_bytes(Buffer::new().format(n).as_bytes())
     }
 
-    // The same with a `-` before a number below zero.
+    /// The same with a `-` before a number below zero.
     pub fn of_signed(z: i64) -> Text
         ensures { bytes_of result ≡ signed_decimal z }
     {
         Text::of_bytes(Buffer::new().format(z).as_bytes())
     }
 
-    // A word as eight hexadecimal digits.
+    /// A word as eight hexadecimal digits.
     pub fn of_word(w: u32) -> Text
         ensures { bytes_of result ≡ hex 8 w }
     {
