@@ -2,7 +2,7 @@
 use Rattle.std.proofs.Common.{◌≡◌, ℕ, suc, ◌+◌, ◌-◌, ◌<◌, ◌≤◌, min, Bool, List, [], ◌∷◌, ◌++◌, map, length, take, drop, set, sym, ap, ◌∙◌, subst, ⊎_elim, zero-le, arith}
 use mathlib.Core.List.{map-append}
 use Rattle.std.specs.List.{remove}
-use Rattle.std.proofs.lemmas.List.{take-map, drop-map, take_at, length-append, length-drop, length-take-le, take_more_set, length_push, get_or_push, get_or_append_left}
+use Rattle.std.proofs.lemmas.List.{length-map, take-map, drop-map, take_at, length-append, length-drop, length-take-le, take_more_set, length_push, get_or_push, get_or_append_left}
 use Rattle.std.proofs.lemmas.List.Edits.{length-remove}
 use Rattle.std.proofs.lemmas.List.Elements.{AllWithin-push}
 use Rattle.std.proofs.lemmas.Bool.{cases_lt}
@@ -17,6 +17,9 @@ use Rattle.calls.specs.State.{State, STRIKE, done}
 use Rattle.calls.specs.Calls.{Next, by_strike, holding}
 use Rattle.book.specs.Search.{Here, Nowhere, Joins}
 use Rattle.book.proofs.Places.{stands}
+use Rattle.network.specs.Offsets.{Fits}
+use Rattle.network.proofs.Lists.{theory}
+use Rattle.std.proofs.Math.Logic.{∥∥₁_map}
 
 module _ {L : Type 0} where
   pub sound-removed : (n : ℕ) (xs : List (Link L)) (i : ℕ) → i < length xs → Sound n xs → Sound n (remove xs i)
@@ -87,6 +90,11 @@ module _ {L T : Type 0} (M : Meaning L T) (s t : Store L) (i j at : ℕ) (found 
   pub struck_single : Single (records s) → Single (records t)
   struck_single h = simp (struck_records) (single-removed (records s) at found.0 h)
 
+  pub struck_fits : ∥ Fits M.quantities (map (link_of M) (records s)) ∥₁ → ∥ Fits M.quantities (map (link_of M) (records t)) ∥₁
+  struck_fits h =
+      let less : map (link_of M) (records t) ≡ remove (map (link_of M) (records s)) at = ap (map (link_of M)) struck_records ∙ map-removed (link_of M) (records s) at in
+      ∥∥₁_map h (λ f. subst (Fits M.quantities) (sym less) ((theory M.quantities (map (link_of M) (records s))).remove at (omega (arith, found.0, length-map (records s) (link_of M))) f))
+
   pub struck_next : Next M (state_of M s) (STRIKE i j) done (state_of M t)
   struck_next =
       let P : State M.quantities.Q → Type 0 = λ u. Next M (state_of M s) (STRIKE i j) done u in
@@ -101,6 +109,9 @@ module _ {L : Type 0} (s t : Store L) (l : Link L)
 
   pub added_sound : t.n ≡ s.n → Good s.n l → Sound s.n (records s) → Sound t.n (records t)
   added_sound n good h = simp (added_records, n) (sound-push s.n (records s) l h good)
+
+  pub added_fits : {T : Type 0} (M : Meaning L T) → Fits M.quantities (map (link_of M) (records s) ++ link_of M l ∷ []) → Fits M.quantities (map (link_of M) (records t))
+  added_fits M f = subst (Fits M.quantities) (sym (ap (map (link_of M)) added_records ∙ map-append (link_of M) (records s) (l ∷ []))) f
 
   pub added_single : Nowhere (Joins l.from l.to) (records s) → Single (records s) → Single (records t)
   added_single fresh h = simp (added_records) (single-push (records s) l h fresh)

@@ -1,5 +1,7 @@
-ghost use Rattle.std.specs.Prelude.{◌≡◌, min, [], length};
+ghost use Rattle.std.specs.Prelude.{◌≡◌, min, [], map, length};
 ghost use Rattle.calls.specs.Calls.{Ran, fresh};
+ghost use Rattle.network.specs.Offsets.{Fits};
+ghost use Rattle.search.specs.Records.{link_of};
 ghost use Rattle.book.specs.Memory.{state_of, records, Held, Sound, Single};
 
 use crate::store::Store;
@@ -13,6 +15,7 @@ pub struct Book<'a, K: Kind> {
     ghost held: { Held store },
     ghost sound: { Sound store.n (records store) },
     ghost single: { Single (records store) },
+    ghost fits: { ∥ Fits K.Kind.meaning.quantities (map (link_of K.Kind.meaning) (records store)) ∥₁ },
 }
 
 impl<'a, K: Kind> Book<'a, K> {

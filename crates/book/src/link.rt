@@ -2,6 +2,7 @@ ghost use Rattle.std.specs.Prelude.{◌≡◌, ◌*◌, ◌<◌, ◌≤◌, [], 
 ghost use Rattle.calls.specs.State.{LINK, First};
 ghost use Rattle.calls.specs.Calls.{checks, holding};
 ghost use Rattle.calls.specs.Verdicts.{Ready, LinkVerdict, ReadsBack};
+ghost use Rattle.network.specs.Offsets.{Fits};
 ghost use Rattle.search.specs.Records.{link_of, On};
 ghost use Rattle.search.specs.Verdict.{Judged};
 ghost use Rattle.book.specs.Memory.{state_of, capacity_of, records, rows_of, shown_answer, shown, Answered, Kept, Good, RowsLeft, Entered};
@@ -44,6 +45,7 @@ impl<'a, K: Kind> Book<'a, K> {
         requires good { Good self.old.store.n link }
         requires fresh { Nowhere (Joins link.from link.to) (records self.old.store) }
         requires room { self.old.store.count < capacity_of self.old.store }
+        requires fits { Fits K.Kind.meaning.quantities ((state_of K.Kind.meaning self.old.store).links ++ link_of K.Kind.meaning link ∷ []) }
         ensures state { state_of K.Kind.meaning self.new.store ≡ holding K.Kind.meaning (state_of K.Kind.meaning self.old.store) ((state_of K.Kind.meaning self.old.store).links ++ link_of K.Kind.meaning link ∷ []) }
         ensures records { self.new.store.links.now ≡ slice_set self.old.store.links.now self.old.store.count link }
     {

@@ -54,6 +54,11 @@ returns-in_err-link_verdict g c =
       };
     })
 
+pub append-requires-clause-fits : goal.append-requires-clause-fits
+append-requires-clause-fits g c =
+    let M = g.K.Kind.meaning in
+    (subst (λ ls. Judged M.quantities (map (link_of M) ls) (link_of M c.args.new) c.args.steps.now c.link_verdict.new.steps (Ok tt)) c.network.ensures.links c.in_ok-link_verdict.ensures.verdict).0
+
 pub returns-clause-call : goal.returns-clause-call
 returns-clause-call g c =
     let M = g.K.Kind.meaning in
