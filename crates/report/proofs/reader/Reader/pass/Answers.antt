@@ -33,6 +33,3 @@ invariant_of-self c =
     let l = ap length (take_rest bs (4 * c.words_taken-taken.result)) in
     let k : 4 * c.words_taken-taken.result ≤ length bs = omega (arith, f.0) in
     record { placed = λ _. within c.args.self.now.at.read c.words_taken-taken.result (length bs) _ c.args.self.now.placed f.1 k (l ∙ length-drop (4 * c.words_taken-taken.result) bs) }
-
-pub returns : goal.returns
-returns c = moved c.args.self.now.at.kind c.args.self.now.at.rest.now c.args.self.now.at.read c.words_taken-taken.result _ c.args.self.now.at.ended c.words_taken-taken.ensures

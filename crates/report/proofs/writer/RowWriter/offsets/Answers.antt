@@ -5,9 +5,6 @@ use Rattle.report.proofs.Appends.{still, unmoved, then, none}
 use Rattle.report.proofs.Hexes.{held}
 use Rattle.report.proofs.writer.RowWriter.offsets.Goals as goal
 
-pub loop-t-init : goal.loop-t-init
-loop-t-init g c = record { same = unmoved _; bound = omega arith; wrote = λ d h. none _ }
-
 pub loop-t-preserved : goal.loop-t-preserved
 loop-t-preserved g c = record {
   same = still c.loop-t.invariant.same (still c.text.ensures.same c.total.ensures.same);

@@ -6,9 +6,6 @@ use Rattle.report.proofs.Appends.{then, none}
 use Rattle.report.proofs.Hexes.{hexes_more}
 use Rattle.report.proofs.writer.RowWriter.steps.Goals as goal
 
-pub loop-w-init : goal.loop-w-init
-loop-w-init c = record { bound = omega arith; wrote = none _ }
-
 pub loop-w-preserved : goal.loop-w-preserved
 loop-w-preserved c = record {
   bound = omega arith;
