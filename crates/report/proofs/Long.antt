@@ -1,7 +1,7 @@
 -- The words of an entry are there.
-use Rattle.std.proofs.Common.{◌≡◌, ℕ, zero, suc, ◌+◌, ◌-◌, ◌*◌, ◌≤◌, Bool, true, false, cond, List, [], ◌∷◌, length, take, drop, Some, None, Ok, refl, arith}
+use Rattle.std.proofs.Common.{◌≡◌, ℕ, zero, suc, ◌+◌, ◌-◌, ◌*◌, ◌≤◌, Bool, true, false, cond, List, [], ◌∷◌, length, Some, None, Ok, refl, arith}
 use Rattle.std.proofs.lemmas.Bool.Decides.{nat_tests}
-use Rattle.std.proofs.lemmas.List.{take_rest, length-take}
+use Rattle.std.proofs.lemmas.List.{length-take}
 use Rattle.report.specs.Words.{words_of, body}
 use Rattle.report.specs.Entries.{entry_of, word_of, bare_of, link_of, walk_of, headed, opening, upcoming, width, taken, Item}
 use Rattle.report.specs.Reading.{Reading, ahead}

@@ -2,7 +2,7 @@ use Rattle.std.proofs.Common.{◌*◌, ◌≤◌, length, ap, ◌∙◌, arith, 
 use Rattle.std.proofs.lemmas.List.{take_rest}
 use Rattle.report.specs.Entries.{item_of}
 use Rattle.report.specs.Reading.{reading_of}
-use Rattle.report.proofs.Long.{ahead_fits, moved, within, bounded}
+use Rattle.report.proofs.Long.{ahead_fits, within, bounded}
 use Rattle.report.proofs.reader.Reader.pass.Goals as goal
 
 pub overflow_cast-self : goal.overflow_cast-self

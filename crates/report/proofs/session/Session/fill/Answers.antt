@@ -3,7 +3,7 @@ use borrow.Rule.Slice.PartMut.{put_mid, put_same, mid_len, same_len_mid}
 use Rattle.text.specs.Writing.{Wrote}
 use Rattle.report.specs.Reading.{ahead}
 use Rattle.report.proofs.Parts.{in_part}
-use Rattle.report.proofs.Course.{same_sizes, step_less, step_within, step_wrote, started, goes}
+use Rattle.report.proofs.Course.{same_sizes, step_less, step_within, step_wrote, goes}
 use Rattle.report.proofs.session.Session.fill.Goals as goal
 
 pub returns-in_default : goal.returns-in_default

@@ -1,7 +1,7 @@
 use Rattle.std.proofs.Common.{◌≡◌, ◌∷◌, ◌++◌, length, sym, subst, add-one, arith}
 use Rattle.report.specs.Appending.{Appended}
 use Rattle.report.specs.Lines.{listed}
-use Rattle.report.proofs.Appends.{still, unmoved, then, none}
+use Rattle.report.proofs.Appends.{still, then}
 use Rattle.report.proofs.Hexes.{held}
 use Rattle.report.proofs.writer.RowWriter.offsets.Goals as goal
 

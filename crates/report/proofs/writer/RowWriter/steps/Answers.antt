@@ -2,7 +2,7 @@ use Rattle.std.proofs.Common.{ℕ, List, subst, arith}
 use Rattle.std.proofs.lemmas.List.{take_all}
 use Rattle.report.specs.Appending.{Appended}
 use Rattle.report.specs.Lines.{hexes}
-use Rattle.report.proofs.Appends.{then, none}
+use Rattle.report.proofs.Appends.{then}
 use Rattle.report.proofs.Hexes.{hexes_more}
 use Rattle.report.proofs.writer.RowWriter.steps.Goals as goal
 
