@@ -25,10 +25,3 @@ pub loop-link-preserved : goal.loop-link-preserved
 loop-link-preserved g c =
     below_more (λ p. Carried g.K.Kind.meaning.quantities (offset g.K.Kind.meaning c.args.row.now) (at g.K.Kind.meaning.quantities (map (link_of g.K.Kind.meaning) c.args.net.now.links.now) (suc p))) c.loop-link.link-index c.loop-link.invariant
     (subst (Carried g.K.Kind.meaning.quantities (offset g.K.Kind.meaning c.args.row.now)) (sym (link_here g.K.Kind.meaning c.args.net.now.links.now c.loop-link.link-index c.link-item.result (omega arith) c.link-item.is)) (c.carried.ensures.yes c.if-not-carried.false))
-
-pub returns : goal.returns
-returns g c =
-    record {
-      yes = λ e. from_one g.K.Kind.meaning.quantities (offset g.K.Kind.meaning c.args.row.now) (map (link_of g.K.Kind.meaning) c.args.net.now.links.now) (λ p h. c.loop-link.invariant p (omega (arith, length-map c.args.net.now.links.now (link_of g.K.Kind.meaning))));
-      no = λ h. refl;
-    }

@@ -27,9 +27,6 @@ start_on g k n z (Backward p) a b = (z p a b).1
 at_start : (g : Graph) (k n : ℕ) → Wired g (suc k) n → (s t : Step) (i : ℕ) → place s ≡ k + 1 → t ≡ reverse s → i ≡ end g t → (i ≡ start g s) × On n i
 at_start g k n z s t i h q e = let r : i ≡ start g s = e ∙ end_turned g s t q in (r, subst (On n) (sym r) (start_on g (suc k) n z s (omega arith) (omega arith)))
 
-pub far_end-i-requires : goal.far_end-i-requires
-far_end-i-requires g c = let e = place_turned c.args.s c.reversed.result c.reversed.ensures in record { low = omega (arith, c.requires.next); high = omega (arith, c.requires.next, c.requires.room) }
-
 pub reroot-requires : goal.reroot-requires
 reroot-requires g c =
     let z = wired c.args.net.now.n (suc c.args.k) c.args.net.now.links.now (omega (arith, c.requires.room)) c.args.net.now.sound in

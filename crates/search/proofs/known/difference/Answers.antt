@@ -1,22 +1,9 @@
-use Rattle.std.proofs.Common.{length, ◌∙◌, arith}
-use Rattle.std.proofs.lemmas.Bool.{both_ways}
+use Rattle.std.proofs.Common.{length, arith}
 use Rattle.search.specs.Settled.{offset}
 use Rattle.search.proofs.Wiring.{wired}
 use Rattle.search.proofs.Verdicts.{to_linked, of_linked}
 use Rattle.search.proofs.Differences.{told}
 use Rattle.search.proofs.known.difference.Goals as goal
-
-pub carry-requires : goal.carry-requires
-carry-requires g c =
-    let z = c.args.rows.now.sizes in
-    record {
-      forest = c.reroot.ensures.still;
-      size = c.reroot.auto.up ∙ c.join.auto.up ∙ z.1 ∙ c.requires.size;
-      sizes = (omega (arith, z.3, c.requires.size), c.requires.offsets, omega (arith, z.2, c.requires.size, c.join.auto.ranks));
-    }
-
-pub returns-then-not-carry : goal.returns-then-not-carry
-returns-then-not-carry g c = λ h. both_ways c.carry.result c.if-not-carry.true (c.carry.ensures.no h)
 
 pub returns-then-rows-i : goal.returns-then-rows-i
 returns-then-rows-i g c = ((offset g.K.Kind.meaning c.carry.new.row, c.carry.ensures.yes c.if-not-carry.false), λ l. c.if-rows-i.true ((c.join.ensures.labelled c.args.i c.args.j c.requires.i c.requires.j).1 (of_linked g.K.Kind.meaning c.args.net.now.links.now c.args.i c.args.j l)))

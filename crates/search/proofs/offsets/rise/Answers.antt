@@ -1,16 +1,10 @@
-use Rattle.std.proofs.Common.{◌≡◌, ◌+◌, ◌<◌, ◌≤◌, [], ◌∷◌, ◌++◌, length, sym, refl, ap, ◌∙◌, arith, length-append, length-set, get_or-set_same}
+use Rattle.std.proofs.Common.{◌≡◌, ◌+◌, ◌<◌, ◌≤◌, [], ◌∷◌, ◌++◌, length, sym, ap, ◌∙◌, arith, length-append, length-set}
 use Rattle.search.specs.Parents.{parents}
 use Rattle.search.specs.Records.{graph_of}
 use Rattle.search.proofs.Wiring.{wired}
 use Rattle.search.proofs.Ways.{joins, next_on, next_less, leads_on, fewer_yet}
-use Rattle.search.proofs.Stacking.{chain_first, chain_more, new_top, same_first}
+use Rattle.search.proofs.Stacking.{chain_more, new_top, same_first}
 use Rattle.search.proofs.offsets.rise.Goals as goal
-
-pub loop-x-init : goal.loop-x-init
-loop-x-init g c =
-    let l : 0 < length c.args.stack.now = omega (arith, c.requires.sizes.1, c.requires.v.0, c.requires.v.1) in
-    let e = get_or-set_same c.args.stack.now 0 c.args.v 0 l in
-    (c.requires.v, chain_first (graph_of c.args.net.now.links.now) c.args.net.now.n c.args.up.now c.args.stack.now c.args.v c.requires.v l, e, e, ([], refl, λ r ss h. h), omega (arith, c.requires.v.0, c.requires.v.1))
 
 pub far_end-x-requires : goal.far_end-x-requires
 far_end-x-requires g c =

@@ -1,11 +1,8 @@
 use Rattle.std.proofs.Common.{[], ◌∷◌, ◌++◌, length, arith}
 use Rattle.search.specs.Records.{graph_of}
 use Rattle.search.proofs.Wiring.{wired}
-use Rattle.search.proofs.Ways.{nothing, more, joins, next_on, next_less, leads_on, fewer_yet, at_root}
+use Rattle.search.proofs.Ways.{more, joins, next_on, next_less, leads_on, fewer_yet, at_root}
 use Rattle.search.proofs.path.climb.Goals as goal
-
-pub loop-s-init : goal.loop-s-init
-loop-s-init g c = (c.requires.inside, ([], nothing c.args.steps.now, λ r ss h. h), omega arith)
 
 pub far_end-x-requires : goal.far_end-x-requires
 far_end-x-requires g c =
@@ -39,15 +36,3 @@ loop-s-preserved g c =
 
 pub returns : goal.returns
 returns g c = record { short = c.loop-s.invariant.2; climbed = (c.loop-s.invariant.1.0, c.loop-s.x, at_root (graph_of c.args.net.now.links.now) c.args.up.now c.args.v c.loop-s.x c.loop-s.invariant.1.0 c.loop-s.invariant.0.0 c.in_default.ensures c.loop-s.invariant.1.2, c.loop-s.invariant.1.1) }
-
-pub offset_bounds-steps-m : goal.offset_bounds-steps-m
-offset_bounds-steps-m g c =
-    let z = wired c.args.net.now.n (length c.args.net.now.links.now) c.args.net.now.links.now (omega arith) c.args.net.now.sound in
-    let b = fewer_yet (graph_of c.args.net.now.links.now) (length c.args.net.now.links.now) c.args.net.now.n z c.args.up.now c.requires.forest c.loop-s.x c.loop-s.invariant.0 c.in-Some.s c.in-Some.ensures c.args.v c.loop-s.invariant.1.0 c.requires.inside c.loop-s.invariant.1.2 in
-    omega (arith, b, c.args.net.now.small, c.loop-s.invariant.1.1.count)
-
-pub overflow_add-m : goal.overflow_add-m
-overflow_add-m g c =
-    let z = wired c.args.net.now.n (length c.args.net.now.links.now) c.args.net.now.links.now (omega arith) c.args.net.now.sound in
-    let b = fewer_yet (graph_of c.args.net.now.links.now) (length c.args.net.now.links.now) c.args.net.now.n z c.args.up.now c.requires.forest c.loop-s.x c.loop-s.invariant.0 c.in-Some.s c.in-Some.ensures c.args.v c.loop-s.invariant.1.0 c.requires.inside c.loop-s.invariant.1.2 in
-    omega (arith, b, c.args.net.now.small, c.loop-s.invariant.1.1.count)
