@@ -1,18 +1,15 @@
 -- The words of an entry are there.
-use Rattle.std.proofs.Common.{◌≡◌, ℕ, zero, suc, ◌+◌, ◌-◌, ◌*◌, ◌≤◌, Bool, true, false, cond, List, [], ◌∷◌, length, take, drop, Some, None, Ok, refl, arith}
+use Rattle.std.proofs.Common.{◌≡◌, ℕ, zero, suc, ◌+◌, ◌-◌, ◌*◌, ◌≤◌, Bool, true, false, cond, List, [], ◌∷◌, length, Some, None, Ok, refl, arith}
 use Rattle.std.proofs.lemmas.Bool.Decides.{nat_tests}
-use Rattle.std.proofs.lemmas.List.{take_rest, length-take}
+use Rattle.std.proofs.lemmas.List.{length-take}
 use Rattle.report.specs.Words.{words_of, body}
 use Rattle.report.specs.Entries.{entry_of, word_of, bare_of, link_of, walk_of, headed, opening, upcoming, width, taken, Item}
 use Rattle.report.specs.Reading.{Reading, ahead}
 use Rattle.report.specs.declared.file.FileKind.{FileKind}
+use Rattle.report.proofs.Front.{words_count}
 
 pub words_fit : (xs : List ℕ) → 4 * length (words_of xs) ≤ length xs
-words_fit [] = omega arith
-words_fit (a ∷ []) = omega arith
-words_fit (a ∷ b ∷ []) = omega arith
-words_fit (a ∷ b ∷ c ∷ []) = omega arith
-words_fit (a ∷ b ∷ c ∷ d ∷ rest) = let h = words_fit rest in omega arith
+words_fit xs = omega (arith, words_count xs)
 
 pub link_fits : (p w : ℕ) (ws : List ℕ) (e : Item) → link_of p w ws ≡ Ok (Some e) → width e ≤ suc (length ws)
 link_fits p w [] e h = grind (arith, nat_tests)
@@ -53,10 +50,6 @@ fits_at kind false (suc n) bs e h =
 
 pub ahead_fits : (r : Reading) (e : Item) → ahead r ≡ Ok (Some e) → (4 * taken r.read e ≤ length r.bytes) × (r.read ≡ 0 → length r.bytes ≤ 65536)
 ahead_fits r e h = fits_at r.kind r.ended r.read r.bytes e h
-
-pub moved : (kind : FileKind) (bs : List ℕ) (read k j : ℕ) (z : Bool) → k ≡ j
-    → ◌≡◌ {A = Reading} (record { kind = kind; bytes = take (length bs - 4 * k) (drop (4 * k) bs); read = read + k; ended = z }) (record { kind = kind; bytes = drop (4 * j) bs; read = read + j; ended = z })
-moved kind bs read k j z e = rw (take_rest bs (4 * k), e) refl
 
 pub within : (read k n m : ℕ) → (1 ≤ read → 4 * read + n ≤ 65536) → (read ≡ 0 → n ≤ 65536) → 4 * k ≤ n → m ≡ n - 4 * k → 4 * (read + k) + m ≤ 65536
 within zero k n m f g h e = omega (arith, g refl)

@@ -34,15 +34,3 @@ returns g c =
       | in-Issue+in_ok-issue-in-Issue w ↦ let y = w.in_ok-issue-in-Issue.ensures.call in rw w.book-is (does g.K.Kind.meaning _ _ _ _ ISSUE (asked g.K.Kind.meaning _ _ _ _ (ap item_of w.in-Issue.is) for_issue) y.answer y.state)
       | in-Recall+in_ok-recall-in-Recall w ↦ let y = w.in_ok-recall-in-Recall.ensures.call in rw w.book-is (does g.K.Kind.meaning _ _ _ _ RECALL (asked g.K.Kind.meaning _ _ _ _ (ap item_of w.in-Recall.is) for_recall) y.answer y.state)
     ]
-
-pub returns-in-Walk : goal.returns-in-Walk
-returns-in-Walk g c = rw c.in-Walk.is (c.do_walk.ensures _)
-
-pub returns-in-Offset : goal.returns-in-Offset
-returns-in-Offset g c = rw c.in-Offset.is c.do_offset.ensures
-
-pub returns-in-Offsets : goal.returns-in-Offsets
-returns-in-Offsets g c = rw c.in-Offsets.is c.do_offsets.ensures
-
-pub returns-in-Realise : goal.returns-in-Realise
-returns-in-Realise g c = rw c.in-Realise.is c.do_realise.ensures

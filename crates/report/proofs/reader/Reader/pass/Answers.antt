@@ -2,7 +2,7 @@ use Rattle.std.proofs.Common.{◌*◌, ◌≤◌, length, ap, ◌∙◌, arith, 
 use Rattle.std.proofs.lemmas.List.{take_rest}
 use Rattle.report.specs.Entries.{item_of}
 use Rattle.report.specs.Reading.{reading_of}
-use Rattle.report.proofs.Long.{ahead_fits, moved, within, bounded}
+use Rattle.report.proofs.Long.{ahead_fits, within, bounded}
 use Rattle.report.proofs.reader.Reader.pass.Goals as goal
 
 pub overflow_cast-self : goal.overflow_cast-self
@@ -33,6 +33,3 @@ invariant_of-self c =
     let l = ap length (take_rest bs (4 * c.words_taken-taken.result)) in
     let k : 4 * c.words_taken-taken.result ≤ length bs = omega (arith, f.0) in
     record { placed = λ _. within c.args.self.now.at.read c.words_taken-taken.result (length bs) _ c.args.self.now.placed f.1 k (l ∙ length-drop (4 * c.words_taken-taken.result) bs) }
-
-pub returns : goal.returns
-returns c = moved c.args.self.now.at.kind c.args.self.now.at.rest.now c.args.self.now.at.read c.words_taken-taken.result _ c.args.self.now.at.ended c.words_taken-taken.ensures

@@ -3,11 +3,8 @@ use borrow.Rule.Slice.PartMut.{put_mid, put_same, mid_len, same_len_mid}
 use Rattle.text.specs.Writing.{Wrote}
 use Rattle.report.specs.Reading.{ahead}
 use Rattle.report.proofs.Parts.{in_part}
-use Rattle.report.proofs.Course.{same_sizes, step_less, step_within, step_wrote, started, goes}
+use Rattle.report.proofs.Course.{same_sizes, step_less, step_within, step_wrote, goes}
 use Rattle.report.proofs.session.Session.fill.Goals as goal
-
-pub loop-report-init : goal.loop-report-init
-loop-report-init g c = (omega arith, λ kind capacity text h f x. started g.K.Kind.meaning kind capacity _ text h f _ _ _ x)
 
 pub returns-in_default : goal.returns-in_default
 returns-in_default g c =
@@ -53,11 +50,3 @@ loop-report-preserved g c =
           goes g.K.Kind.meaning kind capacity _ text h f _ _ _ _ _ _ _ _ _ _ (same_sizes _ _ _ _ _ _ c.loop-report.auto.totals c.loop-report.auto.numbers c.loop-report.auto.steps) _ _ _ _
           (c.loop-report.invariant.1 kind capacity text h f x) e.1 (in_part b row' (take c.in-Some.l.bytes row') at c.in-Some.l.bytes c.loop-report.invariant.0 (step_wrote g.K.Kind.meaning _ _ _ _ _ _ _ _ _ e.1)),
     )
-
-pub returns : goal.returns
-returns g c = record {
-  lines = λ kind capacity text h f x. let q = c.loop-report.invariant.1 kind capacity text h f x in (q.bytes, q.onward, q.wrote);
-  room = c.loop-report.invariant.0;
-  over = λ q. let z : ◌≡◌ {A = ℕ} 0 1 = cc in absurd (omega arith);
-  more = λ _. omega (arith, c.loop-report.invariant.0, c.loop-report.auto.report);
-}

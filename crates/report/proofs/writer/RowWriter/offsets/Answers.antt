@@ -1,12 +1,9 @@
 use Rattle.std.proofs.Common.{◌≡◌, ◌∷◌, ◌++◌, length, sym, subst, add-one, arith}
 use Rattle.report.specs.Appending.{Appended}
 use Rattle.report.specs.Lines.{listed}
-use Rattle.report.proofs.Appends.{still, unmoved, then, none}
+use Rattle.report.proofs.Appends.{still, then}
 use Rattle.report.proofs.Hexes.{held}
 use Rattle.report.proofs.writer.RowWriter.offsets.Goals as goal
-
-pub loop-t-init : goal.loop-t-init
-loop-t-init g c = record { same = unmoved _; bound = omega arith; wrote = λ d h. none _ }
 
 pub loop-t-preserved : goal.loop-t-preserved
 loop-t-preserved g c = record {

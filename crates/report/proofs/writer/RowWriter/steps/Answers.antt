@@ -2,12 +2,9 @@ use Rattle.std.proofs.Common.{ℕ, List, subst, arith}
 use Rattle.std.proofs.lemmas.List.{take_all}
 use Rattle.report.specs.Appending.{Appended}
 use Rattle.report.specs.Lines.{hexes}
-use Rattle.report.proofs.Appends.{then, none}
+use Rattle.report.proofs.Appends.{then}
 use Rattle.report.proofs.Hexes.{hexes_more}
 use Rattle.report.proofs.writer.RowWriter.steps.Goals as goal
-
-pub loop-w-init : goal.loop-w-init
-loop-w-init c = record { bound = omega arith; wrote = none _ }
 
 pub loop-w-preserved : goal.loop-w-preserved
 loop-w-preserved c = record {
