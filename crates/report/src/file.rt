@@ -180,6 +180,7 @@ fn link_entry(place: u32, w: u32, bytes: &[u8]) -> Result<Option<Entry<'_>>, Fil
     Ok(Some(Entry::Link(i, j, latency_number(m), latency_number(v))))
 }
 
+#[tactic(auto, using(crate::proofs::Front::words_count, crate::proofs::Front::words_take))]
 fn walk_entry(place: u32, n: u32, bytes: &[u8]) -> Result<Option<Entry<'_>>, FileFault>
     requires place { place ≤ 65536 }
     requires short { length bytes.now ≤ 65536 }
@@ -254,6 +255,7 @@ pub(crate) fn opened(kind: FileKind, bytes: &[u8]) -> Result<Option<Entry<'_>>, 
     entry_at(2, rest)
 }
 
+#[tactic(auto, using(crate::proofs::Front::words_count))]
 fn width_of(e: Entry<'_>) -> usize
     ensures { (result ≡ width (item_of e.entry)) × (result ≤ 2 ^ 63) }
 {

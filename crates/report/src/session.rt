@@ -72,6 +72,7 @@ impl<'f, 'b, 'a, K: Kind> Session<'f, 'b, 'a, K> {
         self.reader.first_word()
     }
 
+    // Does the call that is next, and writes its line.
     fn act(
         &mut self,
         e: Entry<'_>,
@@ -94,6 +95,7 @@ impl<'f, 'b, 'a, K: Kind> Session<'f, 'b, 'a, K> {
         }
     }
 
+    // Writes the line of the file's fault, which ends the report.
     fn fail(&mut self, f: FileFault, row: &mut [u8]) -> Result<Option<Line>, ShortLine>
         requires { ahead (reading_of self.old.reader.at) ≡ Bad f }
         ensures { (m : Lent K.Total) → Next K.Kind.meaning (reading_of self.old.reader.at) (state_of K.Kind.meaning self.old.book.now.store) m m row.old row.new result (reading_of self.new.reader.at) (state_of K.Kind.meaning self.new.book.now.store) }

@@ -38,6 +38,7 @@ fn line<K: Kind>(
     session.next(totals, numbers, steps, row).unwrap_or(None)
 }
 
+// Does the calls that are left. Each line is made in the row, and goes into the report if it fits there.
 fn finish<K: Kind>(
     session: &mut Session<K>,
     totals: &mut [K::Total],
