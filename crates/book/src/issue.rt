@@ -5,6 +5,7 @@ use crate::book::Book;
 use calls::Refusal;
 use kind::Kind;
 
+// Two calls of one line each, that differ in the mark and the refusal: one function of both would be no shorter.
 impl<'a, K: Kind> Book<'a, K> {
     /// ISSUE: marks the book.
     pub fn issue(&mut self) -> Result<(), Refusal>

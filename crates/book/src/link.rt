@@ -15,6 +15,8 @@ use calls::Refusal;
 use kind::Kind;
 use search::{Link, link_verdict};
 
+// The calls take their rows one by one, and not as a struct: each clause of what a call leaves is about one row of the
+// caller's, and through a struct of them it would also have to say that the struct still holds that row.
 impl<'a, K: Kind> Book<'a, K> {
     // The checks before the verdict, in their order.
     fn check_link(
@@ -52,7 +54,7 @@ impl<'a, K: Kind> Book<'a, K> {
         self.store.put(link);
     }
 
-    // The call itself; `link` adds what its answer tells.
+    // The call itself. `link` adds what its answer tells, once for all ways out: in one function each would tell it again.
     fn enter(
         &mut self,
         new: Link<K::Latency>,

@@ -11,7 +11,7 @@ use kind::Kind;
 use search::{Unknown, offset_between};
 
 impl<'a, K: Kind> Book<'a, K> {
-    // The call itself; `offset` adds what its answer tells.
+    // The call itself. `offset` adds what its answer tells, once for all ways out: in one function each would tell it again.
     fn difference(
         &self,
         i: u32,

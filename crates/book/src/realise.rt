@@ -11,7 +11,7 @@ use kind::Kind;
 use schedule::least_offsets;
 
 impl<'a, K: Kind> Book<'a, K> {
-    // The call itself; `realise` adds what its answer tells.
+    // The call itself. `realise` adds what its answer tells, once for all ways out: in one function each would tell it again.
     fn schedule(
         &self,
         totals: &mut [K::Total],

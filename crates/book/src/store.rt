@@ -49,7 +49,8 @@ impl From<Unrealisable> for Refused {
 // A book has room for at most so many links.
 const MAX_LINKS: usize = 8192;
 
-// The row, of which the first `count` records stand; the ones behind them are the caller's still.
+// A Book's record, apart from it, since its ghost fields cite definitions that name this one. The row is lent, with no
+// memory of the book's own: the first `count` records stand; the ones behind them are the caller's still.
 #[derive(Drop)]
 pub struct Store<'a, L> {
     pub links: &'a mut [Link<L>],

@@ -89,7 +89,7 @@ fn do_realise<K: Kind>(
     Ok(Good::Schedule(book.switches() as usize))
 }
 
-// Does a call of a file on the book.
+// Does a call of a file on the book. The calls are nine for good, so a match, and no table of closures.
 pub(crate) fn perform<K: Kind>(
     book: &mut Book<K>,
     e: Entry<'_>,

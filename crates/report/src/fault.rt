@@ -14,20 +14,21 @@ pub enum LatencyFault {
 }
 
 /// What a call of a file is turned down for: before the book is called, or by the book.
-#[derive(Clone, Copy)]
+#[derive(Clone, Copy, Debug, PartialEq, Eq)]
 pub enum CallFault {
     Latency(LatencyFault),
     Book(Refused),
 }
 
-#[derive(Clone, Copy)]
+/// What a line's fault lies in: the file, or a call.
+#[derive(Clone, Copy, Debug, PartialEq, Eq)]
 pub enum Fault {
     File(FileFault),
     Call(CallFault),
 }
 
 /// A fault and its place: the number, from 1, of the word at fault, or 0 where it is the file as a whole.
-#[derive(Clone, Copy)]
+#[derive(Clone, Copy, Debug, PartialEq, Eq)]
 pub struct Placed {
     pub fault: Fault,
     pub place: u32,
@@ -45,6 +46,7 @@ pub enum Good<T> {
     Schedule(usize),
 }
 
+// By hand and not by a derive, since clauses say which fault a `?` makes.
 impl From<LatencyFault> for CallFault {
     ghost from_gives = { λ e r. r ≡ OfLatency e };
 
@@ -65,10 +67,7 @@ impl From<Refusal> for CallFault {
     ghost from_gives = { λ e r. r ≡ OfBook (record { refusal = e; shown = 0 }) };
 
     fn from(e: Refusal) -> CallFault {
-        CallFault::Book(Refused {
-            refusal: e,
-            shown: 0,
-        })
+        CallFault::Book(e.into())
     }
 }
 

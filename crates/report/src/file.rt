@@ -8,7 +8,7 @@ const MAX_FILE: usize = 65536;
 // A WALK in a file has at most so many words.
 pub(crate) const MAX_WALK: u32 = 1024;
 
-// The sorts of words: bits 31 to 28.
+// The sorts of words: bits 31 to 28. They are the file's own numbers, which an Entry is made of at once.
 const SIZE: u32 = 2;
 
 const LINK: u32 = 3;
@@ -64,6 +64,7 @@ pub enum FileFault {
 }
 
 impl FileFault {
+    // A match, since a variant with a place has no discriminant.
     pub(crate) fn number(self) -> u32
         ensures { result ≡ file_number self }
     {
@@ -274,6 +275,7 @@ pub(crate) fn words_taken(read: u32, e: Entry<'_>) -> usize
     if read == 0 { 1 + own } else { own }
 }
 
+// Apart from the Reader, whose ghost field cites definitions that name this record.
 /// Where a reader stands in its file: what is left of it, how many words are read, and whether a fault has ended it.
 #[derive(Drop)]
 pub struct Place<'f> {

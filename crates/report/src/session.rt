@@ -22,7 +22,7 @@ pub const LINE_ROOM: usize = 32768;
 pub struct ShortLine;
 
 /// A line of the report: how many bytes it has, and the fault that it tells, if it tells one.
-#[derive(Clone, Copy)]
+#[derive(Clone, Copy, Debug, PartialEq, Eq)]
 pub struct Line {
     pub bytes: usize,
     pub fault: Option<Placed>,

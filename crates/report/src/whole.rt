@@ -61,6 +61,7 @@ fn finish<K: Kind>(
 }
 
 /// How far a report went: so many bytes of it are in its row, and whether it is over.
+// A flag beside the bytes: they are told in both cases, so two variants would be no plainer.
 #[derive(Clone, Copy, Debug, PartialEq, Eq)]
 pub struct Filled {
     pub bytes: usize,
@@ -82,6 +83,7 @@ impl<'f, 'b, 'a, K: Kind> Session<'f, 'b, 'a, K> {
         ensures over { result.over ≡ true → ahead (reading_of self.new.reader.at) ≡ Good Nothing }
         ensures more { result.over ≡ false → length report.old < result.bytes + 32768 }
     {
+        // A line is written by `next` itself, so only its length is known here.
         let mut bytes = 0;
         while report.len() - bytes >= LINE_ROOM {
             let Some(l) = line(self, totals, numbers, steps, &mut report[bytes..]) else {

@@ -31,6 +31,7 @@ pub(crate) fn find_loop<L: Copy>(
     ensures { On net.now.n result.0 × Circle (graph_of net.now.links.now) net.now.n (entry preds.now) v result.0 result.1 }
 {
     let mut u = v;
+    // The number of the last mark: it is written, and no index.
     let mut t: u32 = 0;
     while marks[u as usize - 1] == 0 {
         t += 1;

@@ -1,6 +1,6 @@
 ghost use Rattle.std.specs.Prelude.{◌≡◌, ◌*◌, ◌≤◌, length};
 
-// What the rounds work in, a place for each switch in every row: the round that last raised it (0: none did), the
+// What the rounds work in, over numbers that are lent, so without memory of its own: a place for each switch in every row: the round that last raised it (0: none did), the
 // position of the link that it was raised for, and a mark.
 #[derive(Drop)]
 pub(crate) struct Rows<'r> {

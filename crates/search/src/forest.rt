@@ -125,6 +125,7 @@ fn flatten(labels: &mut [u32], ranks: &[u32])
     ensures inside { (v : ℕ) → On (length labels.old) v → On (length labels.old) (label labels.new v) }
     ensures leads { (l : ℕ → ℕ) → Leader (length labels.old) (label labels.old) l → (v : ℕ) → On (length labels.old) v → label labels.new v ≡ l v }
 {
+    // By index, since the row is read while it is written.
     for i in 0..labels.len() {
         labels[i] = root(labels, ranks, i as u32 + 1);
     }

@@ -107,6 +107,7 @@ fn rise<L: Copy>(
     ensures last { slice_index marks.now (slice_index stack.new result - 1) ≡ 0 → parents up.now (slice_index stack.new result) ≡ None }
 {
     let mut x = v;
+    // Only the end of the way tells how high the stack grows.
     let mut top: usize = 0;
     stack[0] = v;
     while marks[x as usize - 1] == 0 {

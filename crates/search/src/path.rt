@@ -17,6 +17,7 @@ pub(crate) fn climb<L: Copy>(net: &Network<'_, L>, up: &[u32], steps: &mut [u32]
     ensures climbed { Climbed (graph_of net.now.links.now) up.now v steps.old steps.new result }
 {
     let mut x = v;
+    // Only the end of the way tells how many steps it has.
     let mut m: usize = 0;
     while let Some(s) = step_up(up, x) {
         steps[m] = s.word();

@@ -1,6 +1,6 @@
 ghost use Rattle.std.specs.Prelude.{◌≡◌, ◌*◌, ◌≤◌, length};
 
-// What a search works in, a place for each switch in every row: the label of its group, the word of its step up to its
+// What a search works in, over numbers that are lent, so without memory of its own: a place for each switch in every row: the label of its group, the word of its step up to its
 // parent, a stack of switches, and their marks.
 #[derive(Drop)]
 pub(crate) struct Rows<'r> {

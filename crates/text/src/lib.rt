@@ -9,6 +9,7 @@ use itoa::Buffer;
 const LIMIT: usize = 28;
 
 /// The bytes of one printed number.
+// An array with its length: a Text is copied, and the library's ArrayVec cannot be.
 #[derive(Clone, Copy)]
 pub struct Text {
     bytes: [u8; LIMIT],
