@@ -1,7 +1,6 @@
 -- What a refusal leaves in a step row of zeros.
 use Rattle.std.proofs.Common.{◌≡◌, ℕ, ◌-◌, List, ◌++◌, map, length, take, drop, replicate, Ok, Err, Result, MatchResult, sym, ap, ◌∙◌}
 use Rattle.std.proofs.lemmas.List.{length-map, length-take-le, take-append-drop, drop-replicate}
-use Rattle.network.specs.declared.Step.{Step}
 use Rattle.network.specs.Words.{word, steps_of}
 use Rattle.book.specs.declared.store.Refused.{Refused}
 use Rattle.book.specs.Memory.{RowsLeft, shown_answer}

@@ -1,5 +1,5 @@
 use crate::chain::{LATE, chain};
-use crate::outcome::{Outcome, ShownRefusal};
+use crate::outcome::Outcome;
 use crate::perform::{blank, link, size, strike};
 use book::{Book, Link};
 use calls::Refusal;
@@ -65,10 +65,10 @@ fn strikes_only_what_stands(rt: HostRuntime) {
 fn shown_words_are_walked(rt: HostRuntime) -> Result<(), Fail> {
     let mut records = [blank::<Ticks>(); 3];
     let (mut book, _) = chain(&mut records);
-    let Err(ShownRefusal { words, .. }) = link(&mut book, &mut [0; 6], LATE) else {
+    let Err(refused) = link(&mut book, &mut [0; 6], LATE) else {
         return Err(Fail::new("the link fits"));
     };
-    let Ok((measured, wanted)) = book.walk(&words[0..2]) else {
+    let Ok((measured, wanted)) = book.walk(&refused.words[0..2]) else {
         return Err(Fail::new("no walk"));
     };
     assert_eq!(rt; measured, -3);
