@@ -52,15 +52,13 @@ pub(crate) fn chain<'a>(records: &'a mut [Link<TickLatency>; 3]) -> (Book<'a, Ti
 // A link that closes the chain and wants what the chain does is taken, and stands last.
 pub(crate) fn closing_link_fits<'a>(
     records: &'a mut [Link<TickLatency>; 3],
-    outcomes: &mut [Outcome; 4],
-) -> Book<'a, Ticks>
-    ensures outcomes { outcomes.new ≡ Ok tt ∷ Ok tt ∷ Ok tt ∷ Ok tt ∷ [] }
-    ensures links { (state_of tick_meaning result.store).links ≡ edge 1 2 (pos 5) (pos 6) ∷ edge 2 3 (negsuc 1) (pos 0) ∷ edge 1 3 (pos 4) (pos 7) ∷ [] }
+) -> (Book<'a, Ticks>, [Outcome; 4])
+    ensures outcomes { result.1 ≡ Ok tt ∷ Ok tt ∷ Ok tt ∷ Ok tt ∷ [] }
+    ensures links { (state_of tick_meaning result.0.store).links ≡ edge 1 2 (pos 5) (pos 6) ∷ edge 2 3 (negsuc 1) (pos 0) ∷ edge 1 3 (pos 4) (pos 7) ∷ [] }
 {
     let (mut book, [sized, first, second]) = chain(records);
     let closing = link(&mut book, &mut [0; 6], CLOSING);
-    *outcomes = [sized, first, second, closing];
-    book
+    (book, [sized, first, second, closing])
 }
 
 // One that wants a tick more is refused, with the way back over the chain.

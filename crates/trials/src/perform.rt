@@ -1,4 +1,4 @@
-ghost use Rattle.std.specs.Prelude.{◌≡◌, true, length, pos, is_some};
+ghost use Rattle.std.specs.Prelude.{◌≡◌, length, pos, IsSome};
 ghost use Rattle.calls.specs.State.{SIZE, LINK, STRIKE};
 ghost use Rattle.trials.specs.Outcomes.{quantity, numbered, lent, Came};
 
@@ -8,7 +8,7 @@ use kind::Kind;
 
 // The latency that a number of the kind's range makes.
 fn latency<K: Kind>(number: i32) -> K::Latency
-    requires { is_some (K.Kind.meaning.reads number) ≡ true }
+    requires { IsSome (K.Kind.meaning.reads number) }
     ensures { K.Kind.meaning.latency result ≡ quantity K.Kind.meaning number }
 {
     K::latency(number).unwrap()
@@ -16,7 +16,7 @@ fn latency<K: Kind>(number: i32) -> K::Latency
 
 // A record to fill a new book's row with.
 pub(crate) fn blank<K: Kind>() -> Link<K::Latency>
-    requires { is_some (K.Kind.meaning.reads (pos 0)) ≡ true }
+    requires { IsSome (K.Kind.meaning.reads (pos 0)) }
 {
     Link::blank(latency::<K>(0))
 }
@@ -35,8 +35,8 @@ pub(crate) fn strike<K: Kind>(book: &mut Book<K>, from: u32, to: u32) -> Outcome
 
 // LINK, with a step row for three switches.
 pub(crate) fn link<K: Kind>(book: &mut Book<K>, totals: &mut [K::Total], new: Link<i32>) -> Outcome
-    requires measured { is_some (K.Kind.meaning.reads new.measured) ≡ true }
-    requires wanted { is_some (K.Kind.meaning.reads new.wanted) ≡ true }
+    requires measured { IsSome (K.Kind.meaning.reads new.measured) }
+    requires wanted { IsSome (K.Kind.meaning.reads new.wanted) }
     ensures { Came K.Kind.meaning book.old.store (LINK (numbered K.Kind.meaning new) (lent (length totals.old))) result book.new.store }
 {
     let new = Link {

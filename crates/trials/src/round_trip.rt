@@ -1,4 +1,4 @@
-ghost use Rattle.std.specs.Prelude.{◌≡◌, true, [], ◌∷◌, pos, is_some, Ok, Err};
+ghost use Rattle.std.specs.Prelude.{◌≡◌, [], ◌∷◌, pos, IsSome, Ok, Err};
 ghost use Rattle.trials.specs.Outcomes.{Returned};
 
 use crate::outcome::Outcome;
@@ -27,9 +27,9 @@ fn round_trip<K: Kind>(
     records: &mut [Link<K::Latency>; 3],
     totals: &mut [K::Total; 4],
 ) -> [Outcome; 3]
-    requires measured { is_some (K.Kind.meaning.reads (pos 0)) ≡ true }
-    requires out { is_some (K.Kind.meaning.reads (pos 600)) ≡ true }
-    requires back { is_some (K.Kind.meaning.reads (pos 400)) ≡ true }
+    requires measured { IsSome (K.Kind.meaning.reads (pos 0)) }
+    requires out { IsSome (K.Kind.meaning.reads (pos 600)) }
+    requires back { IsSome (K.Kind.meaning.reads (pos 400)) }
     ensures { Returned K.Kind.meaning result }
 {
     let mut book = Book::<K>::new(records);
