@@ -47,17 +47,17 @@ too_late (c, m) = omega (arith, ints, m 1 (omega arith), m 2 (omega arith), m 3 
 
 -- the second link and the third are ready, where those before them stand
 after_one : (l : Link ℤ) → (1 ≤ l.from) × (l.from < 3) × (l.to ≡ 3) → Ready tick_meaning (holds 3 (first ∷ [])) l (lent 6)
-after_one l h = is_ready tick_meaning 3 6 (first ∷ []) l (omega arith) (omega arith) (omega arith) (omega arith) (λ e. omega arith) ((λ e. omega arith), tt)
+after_one l h = is_ready tick_meaning 3 (first ∷ []) l (omega arith) (omega arith) (omega arith) (λ e. omega arith) ((λ e. omega arith), tt)
 
 after_two : (wanted : ℤ) → Ready tick_meaning (holds 3 (first ∷ second ∷ [])) (third wanted) (lent 6)
-after_two wanted = is_ready tick_meaning 3 6 (first ∷ second ∷ []) (third wanted) (omega arith) (omega arith) (omega arith) (omega arith) (λ e. omega arith) ((λ e. omega arith), ((λ e. omega arith), tt))
+after_two wanted = is_ready tick_meaning 3 (first ∷ second ∷ []) (third wanted) (omega arith) (omega arith) (omega arith) (λ e. omega arith) ((λ e. omega arith), ((λ e. omega arith), tt))
 
 abbrev Holds : Store TickLatency → List (Link ℤ) → Type 0
 Holds b links = Reached tick_meaning b (holds 3 links)
 
 module _ {b t : Store TickLatency} {o : Outcome} where
   pub one_enters : Holds b [] → Came tick_meaning b (LINK first (lent 6)) o t → (o ≡ Ok tt) × Holds t (first ∷ [])
-  one_enters at came = first_enters tick_meaning 3 at came (is_ready tick_meaning 3 6 [] first (omega arith) (omega arith) (omega arith) (omega arith) (λ e. omega arith) tt)
+  one_enters at came = first_enters tick_meaning 3 at came (is_ready tick_meaning 3 [] first (omega arith) (omega arith) (omega arith) (λ e. omega arith) tt)
 
   pub two_enters : Holds b (first ∷ []) → Came tick_meaning b (LINK second (lent 6)) o t → (o ≡ Ok tt) × Holds t (first ∷ second ∷ [])
   two_enters at came = enters tick_meaning 3 (first ∷ []) at came (after_one second (omega arith)) (fits_by tick_meaning (pos 0 ∷ pos 1 ∷ pos 3 ∷ []) (first ∷ second ∷ []) (refl, (refl, tt)))

@@ -17,10 +17,10 @@ use Rattle.trials.proofs.Listed.{first_joins, fits_by, is_ready}
 
 module _ {L T : Type 0} (M : Meaning L T) {m w : M.quantities.Q} where
   pub out_enters : {b t : Store L} {o : Outcome} → Reached M b (holds 2 []) → Came M b (LINK (edge 1 2 m w) (lent 4)) o t → (o ≡ Ok tt) × Reached M t (holds 2 (edge 1 2 m w ∷ []))
-  out_enters at came = first_enters M 2 at came (is_ready M 2 4 [] (edge 1 2 m w) (omega arith) (omega arith) (omega arith) (omega arith) (λ e. omega arith) tt)
+  out_enters at came = first_enters M 2 at came (is_ready M 2 [] (edge 1 2 m w) (omega arith) (omega arith) (omega arith) (λ e. omega arith) tt)
 
   back_ready : (x y : M.quantities.Q) → Ready M (holds 2 (edge 1 2 m w ∷ [])) (edge 2 1 x y) (lent 4)
-  back_ready x y = is_ready M 2 4 (edge 1 2 m w ∷ []) (edge 2 1 x y) (omega arith) (omega arith) (omega arith) (omega arith) (λ e. omega arith) ((λ e. omega arith), tt)
+  back_ready x y = is_ready M 2 (edge 1 2 m w ∷ []) (edge 2 1 x y) (omega arith) (omega arith) (omega arith) (λ e. omega arith) ((λ e. omega arith), tt)
 
 abbrev out : Link ℤ
 out = edge 1 2 (pos 0) (pos 600)
