@@ -1,10 +1,10 @@
 -- What a refusal leaves in a step row of zeros.
-use Rattle.std.proofs.Common.{◌≡◌, ℕ, ◌-◌, List, ◌++◌, length, take, drop, replicate, Ok, Err, Result, MatchResult, sym, ap, ◌∙◌}
+use Rattle.std.proofs.Common.{◌≡◌, ℕ, ◌-◌, List, length, take, drop, replicate, Ok, Err, Result, MatchResult, sym, ap, ◌∙◌}
 use Rattle.std.proofs.lemmas.List.{length-map, length-take-le, take-append-drop, drop-replicate}
 use Rattle.network.specs.Words.{word, steps_of}
 use Rattle.book.specs.declared.store.Refused.{Refused}
 use Rattle.book.specs.Memory.{RowsLeft, shown_answer}
-use Rattle.trials.specs.Outcomes.{row, told, Outcome}
+use Rattle.trials.specs.Outcomes.{told, Outcome}
 
 -- the outcome of a call, with the step row that it left
 abbrev pub Shows : Result (Unit {0}) Refused → List ℕ → Outcome → Type 0

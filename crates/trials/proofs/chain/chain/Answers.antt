@@ -9,7 +9,4 @@ returns c =
     let sized = sizes tick_meaning 3 (lit≤ tt) (lit≤ tt) (search rules) c.size-sized.ensures in
     let first = one_enters sized.1 c.link-first.ensures in
     let second = two_enters first.1 c.link-second.ensures in
-    let a = sized.0 in
-    let b = first.0 in
-    let d = second.0 in
-    record { outcomes = cc; state = second.1 }
+    record { outcomes = rw (sized.0, first.0, second.0); state = second.1 }

@@ -10,13 +10,11 @@ returns g c =
     let room-2 : length c.link-out.new.totals ≡ 4 = search rules in
     let sized = sizes M 2 (lit≤ tt) (lit≤ tt) (search rules) c.size-sized.ensures in
     let out = out_enters M sized.1 (rw room at c.link-out.ensures) in
-    let a = sized.0 in
-    let b = out.0 in
     record {
       before = c.link-out.new.book.store;
       after = c.link-back.new.book.store;
       back = c.link-back.result;
-      taken = cc;
+      taken = rw (sized.0, out.0);
       out = out.1;
       came = rw room-2 at c.link-back.ensures;
     }
