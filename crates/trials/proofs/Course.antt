@@ -1,5 +1,5 @@
 -- Where a call leads, once its right answer is known.
-use Rattle.std.proofs.Common.{◌≡◌, ℕ, ◌≤◌, List, [], ◌∷◌, ◌++◌, sym, refl, ap, ◌∙◌, subst, arith}
+use Rattle.std.proofs.Common.{◌≡◌, ℕ, ◌≤◌, List, [], ◌∷◌, ◌++◌, sym, refl, ap, ◌∙◌, subst, arith, Ok}
 use Rattle.std.proofs.lemmas.Bool.{false≢true}
 use Rattle.kind.specs.Meaning.{Meaning}
 use Rattle.network.specs.declared.Step.{Step}
@@ -16,9 +16,7 @@ use Rattle.calls.proofs.Linking.{judged, fitting}
 use Rattle.calls.proofs.Whole.{one_book}
 use Rattle.book.specs.declared.store.Store.{Store}
 use Rattle.book.specs.Memory.{state_of}
-use Rattle.trials.specs.declared.outcome.Outcome.{Outcome}
-use Rattle.trials.specs.declared.outcome.Outcome.TheVariants.{Taken}
-use Rattle.trials.specs.Outcomes.{told, holds, Came, Reached}
+use Rattle.trials.specs.Outcomes.{Outcome, told, holds, Came, Reached}
 
 module _ {L T : Type 0} (M : Meaning L T) where
   abbrev Q : Type 0
@@ -37,7 +35,7 @@ module _ {L T : Type 0} (M : Meaning L T) where
         came.answered.only h (subst (Ran M h) (sym at.0) at.1.1) a (subst (λ x. Right M x c a) (sym at.0) r)
 
     -- a call that is rightly taken is taken, and leaves what it should
-    pub takes : (u : State Q) → Right M s c done → Next M s c done u → (o ≡ Taken) × Reached M t u
+    pub takes : (u : State Q) → Right M s c done → Next M s c done u → (o ≡ Ok tt) × Reached M t u
     takes u r n =
         let h = at.1.0 in
         let ran = at.1.1 in
@@ -49,12 +47,12 @@ module _ {L T : Type 0} (M : Meaning L T) where
     refuses : (steps : List Step) → Right M s c (refused Contradicts steps) → o ≡ told {Q = Q} (refused Contradicts steps)
     refuses steps r = came.tells ∙ ap told (same_contradicts (only (refused Contradicts steps) r))
 
-  pub sizes : {b t : Store L} {o : Outcome} (n : ℕ) → 1 ≤ n → n ≤ 1024 → Reached M b (holds 1 []) → Came M b (SIZE n) o t → (o ≡ Taken) × Reached M t (holds n [])
+  pub sizes : {b t : Store L} {o : Outcome} (n : ℕ) → 1 ≤ n → n ≤ 1024 → Reached M b (holds 1 []) → Came M b (SIZE n) o t → (o ≡ Ok tt) × Reached M t (holds n [])
   sizes n low high at came = takes (holds 1 []) at came (holds n []) (yields done (false≢true, ((λ f. f (low, high)), ((λ x. omega (arith, x.1)), tt))) (sized n)) (by_size n)
 
   module _ {b t : Store L} {o : Outcome} {l : Link Q} {rows : Rows} (n : ℕ) (links : List (Link Q)) (at : Reached M b (holds n links)) (came : Came M b (LINK l rows) o t) (ready : Ready M (holds n links) l rows) where
     -- a link that fits is entered last
-    pub enters : Fits M.quantities (links ++ l ∷ []) → (o ≡ Taken) × Reached M t (holds n (links ++ l ∷ []))
+    pub enters : Fits M.quantities (links ++ l ∷ []) → (o ≡ Ok tt) × Reached M t (holds n (links ++ l ∷ []))
     enters f = takes (holds n links) at came (holds n (links ++ l ∷ [])) (fitting M (holds n links) l rows ready f) (by_link l rows)
 
     -- one that does not is refused, and the way back is shown
@@ -62,7 +60,7 @@ module _ {L T : Type 0} (M : Meaning L T) where
     contradicts f steps w = refuses (holds n links) at came steps (judged M (holds n links) l rows ready f steps w)
 
   -- a first link fits, whatever it measured and wants
-  pub first_enters : {b t : Store L} {o : Outcome} {l : Link Q} {rows : Rows} (n : ℕ) → Reached M b (holds n []) → Came M b (LINK l rows) o t → Ready M (holds n []) l rows → (o ≡ Taken) × Reached M t (holds n (l ∷ []))
+  pub first_enters : {b t : Store L} {o : Outcome} {l : Link Q} {rows : Rows} (n : ℕ) → Reached M b (holds n []) → Came M b (LINK l rows) o t → Ready M (holds n []) l rows → (o ≡ Ok tt) × Reached M t (holds n (l ∷ []))
   first_enters {l = l} n at came ready =
       let K = M.quantities in
       enters n [] at came ready ((theory K []).add_apart l (theory K []).none (λ c. ready.apart (none (graph K []) l.from c.0 l.to c.1)))

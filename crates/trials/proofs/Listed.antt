@@ -1,5 +1,6 @@
 -- What holds of links that are written out.
 use Rattle.std.proofs.Common.{◌≡◌, ℕ, zero, suc, ◌*◌, ◌<◌, ◌≤◌, List, [], ◌∷◌, length, get_or, sym, refl, subst, arith}
+use Rattle.std.proofs.lemmas.List.Elements.{All-from_recursion}
 use Rattle.std.specs.List.{AllByRecursion}
 use Rattle.kind.specs.Meaning.{Meaning}
 use Rattle.network.specs.declared.Step.{Step}
@@ -28,9 +29,7 @@ module _ {L T : Type 0} (M : Meaning L T) where
 
   each : (P : Link Q → Type 0) (links : List (Link Q)) → AllByRecursion P links → (p : ℕ) → Positions M.quantities links p → P (at M.quantities links p)
   each P links h zero u = absurd (omega arith)
-  each P [] h (suc p) u = absurd (omega arith)
-  each P (l ∷ links) h (suc zero) u = h.0
-  each P (l ∷ links) h (suc (suc p)) u = each P links h.1 (suc p) (omega arith)
+  each P links h (suc p) u = All-from_recursion P links h p _ (omega arith)
 
   -- the offsets in a list, that of switch 1 first
   abbrev listed : List Q → ℕ → Q
@@ -42,13 +41,13 @@ module _ {L T : Type 0} (M : Meaning L T) where
   abbrev Other : Link Q → Link Q → Type 0
   Other l k = (k.from ≡ l.from) × (k.to ≡ l.to) → ⊥
 
-  -- on up to three switches, with room for one link more
-  pub is_ready : (n room : ℕ) (links : List (Link Q)) (l : Link Q) → n ≤ 3 → 2 * n ≤ room → length links < 3 → Inside n (l.from ∷ l.to ∷ []) → (l.from ≡ l.to → ⊥) → AllByRecursion (Other l) links → Ready M (holds n links) l (lent room)
-  is_ready n room links l few enough short inside apart new = record {
+  -- on up to three switches, with room for one link more, and two totals for each switch
+  pub is_ready : (n : ℕ) (links : List (Link Q)) (l : Link Q) → n ≤ 3 → length links < 3 → Inside n (l.from ∷ l.to ∷ []) → (l.from ≡ l.to → ⊥) → AllByRecursion (Other l) links → Ready M (holds n links) l (lent (2 * n))
+  is_ready n links l few short inside apart new = record {
     unissued = refl;
     inside = inside;
     apart = apart;
     new = λ s. each (Other l) links new s.0 s.1.0 (s.1.1, s.1.2);
     room = short;
-    enough = (enough, omega arith, few);
+    enough = (omega arith, omega arith, few);
   }

@@ -1,29 +1,31 @@
 -- What an outcome tells of a call on a book.
-use Rattle.std.specs.Prelude.{◌≡◌, ℕ, ◌-◌, false, List, ◌++◌, map, length, replicate, ℤ, Some, None, Option}
+use Rattle.std.specs.Prelude.{◌≡◌, ℕ, ◌-◌, false, List, [], ◌∷◌, ◌++◌, map, length, replicate, ℤ, pos, Some, None, Ok, Err, Option, Result}
 use Rattle.kind.specs.Meaning.{Meaning}
 use Rattle.network.specs.declared.Step.{Step}
 use Rattle.network.specs.Offsets.{Link}
 use Rattle.network.specs.Words.{word}
 use Rattle.search.specs.declared.link.Link.{Link as Record}
-use Rattle.calls.specs.Refusals.{number_of}
-use Rattle.calls.specs.State.{State, Rows, Call, Answer, done, total, totals, offsets, refused}
+use Rattle.calls.specs.State.{State, Rows, Call, LINK, Answer, done, total, totals, offsets, refused}
 use Rattle.calls.specs.Calls.{Ran}
 use Rattle.book.specs.declared.store.Store.{Store}
 use Rattle.book.specs.Memory.{state_of, Answered}
-use Rattle.trials.specs.declared.outcome.Outcome.{Outcome}
-use Rattle.trials.specs.declared.outcome.Outcome.TheVariants.{Taken, Refused}
+use Rattle.trials.specs.declared.outcome.ShownRefusal.{ShownRefusal}
 
 -- a step row of zeros with the words of the steps at its start
 abbrev pub row : List Step → List ℕ
 row steps = map word steps ++ replicate (3 - length steps) 0
 
+-- what comes of a call
+abbrev pub Outcome : Type 0
+Outcome = Result (Unit {0}) ShownRefusal
+
 -- the outcome of an answer
 abbrev pub told : {Q : Type 0} → Answer Q → Outcome
-told done = Taken
-told (total q) = Taken
-told (totals m w) = Taken
-told (offsets c) = Taken
-told (refused e steps) = Refused (number_of e) (length steps) (row steps)
+told done = Ok tt
+told (total q) = Ok tt
+told (totals m w) = Ok tt
+told (offsets c) = Ok tt
+told (refused e steps) = Err (record { refusal = e; steps = length steps; words = row steps })
 
 abbrev pub edge : {Q : Type 0} → ℕ → ℕ → Q → Q → Link Q
 edge from to measured wanted = record { from = from; to = to; measured = measured; wanted = wanted }
@@ -61,3 +63,12 @@ module _ {L T : Type 0} (M : Meaning L T) where
   -- calls on a new book have led to this state
   abbrev pub Reached : Store L → State Q → Type 0
   Reached t s = (state_of M t ≡ s) × ((h : List (Call Q × Answer Q)) × Ran M h s)
+
+  -- after a size and a first link that were taken, from switch 1 to 2, this came of one from 2 to 1
+  pub record Returned (outcomes : List Outcome) : Type 0 where
+    pub before : Store L
+    pub after : Store L
+    pub back : Outcome
+    pub taken : outcomes ≡ Ok tt ∷ Ok tt ∷ back ∷ []
+    pub out : Reached before (holds 2 (edge 1 2 (quantity (pos 0)) (quantity (pos 600)) ∷ []))
+    pub came : Came before (LINK (edge 2 1 (quantity (pos 0)) (quantity (pos 400))) (lent 4)) back after

@@ -9,4 +9,4 @@ mod round_trip;
 mod tests;
 
 pub use self::all::{Trials, all_trials};
-pub use self::outcome::Outcome;
+pub use self::outcome::{Outcome, ShownRefusal};

@@ -2,41 +2,37 @@ use crate::chain::{LATE, chain};
 use crate::outcome::Outcome;
 use crate::perform::{blank, link, size, strike};
 use book::{Book, Link};
+use calls::Refusal;
 use kinds::Ticks;
 use std::test::Fail;
 
-// The number of the refusal, or 0.
-fn number(outcome: Outcome) -> u32 {
-    match outcome {
-        Outcome::Taken => 0,
-        Outcome::Refused { number, .. } => number,
-    }
+// Why the call was refused, if it was.
+fn refusal(outcome: Outcome) -> Option<Refusal> {
+    outcome.err().map(|shown| shown.refusal)
 }
 
 #[test]
 fn sizes_are_1_to_1024(rt: HostRuntime) {
     let mut records = [blank::<Ticks>(); 3];
     let mut book = Book::<Ticks>::new(&mut records);
-    assert_eq!(rt; number(size(&mut book, 0)), 8);
-    assert_eq!(rt; number(size(&mut book, 1025)), 8);
-    assert_eq!(rt; number(size(&mut book, 1)), 0);
-    assert_eq!(rt; number(size(&mut book, 1024)), 0);
+    assert_eq!(rt; refusal(size(&mut book, 0)), Some(Refusal::BadSize));
+    assert_eq!(rt; refusal(size(&mut book, 1025)), Some(Refusal::BadSize));
+    assert_eq!(rt; refusal(size(&mut book, 1)), None);
+    assert_eq!(rt; refusal(size(&mut book, 1024)), None);
 }
 
 #[test]
 fn size_keeps_the_links(rt: HostRuntime) {
     let mut records = [blank::<Ticks>(); 3];
-    let mut totals = [0; 6];
-    let mut book = Book::<Ticks>::new(&mut records);
-    let _ = chain(&mut book, &mut totals);
-    assert_eq!(rt; number(size(&mut book, 2)), 9);
+    let (mut book, _) = chain(&mut records);
+    assert_eq!(rt; refusal(size(&mut book, 2)), Some(Refusal::SizeBelowLink));
 }
 
 #[test]
 fn short_rows_are_left(rt: HostRuntime) -> Result<(), Fail> {
     let mut records = [blank::<Ticks>(); 3];
     let mut book = Book::<Ticks>::new(&mut records);
-    assert_eq!(rt; number(size(&mut book, 2)), 0);
+    assert_eq!(rt; refusal(size(&mut book, 2)), None);
     let mut totals = [7; 4];
     let mut numbers = [7; 7];
     let mut steps = [7; 2];
@@ -48,7 +44,7 @@ fn short_rows_are_left(rt: HostRuntime) -> Result<(), Fail> {
     let Err(refused) = book.link(new, &mut totals, &mut numbers, &mut steps) else {
         return Err(Fail::new("short rows suffice"));
     };
-    assert_eq!(rt; refused.refusal.number(), 10);
+    assert_eq!(rt; refused.refusal, Refusal::ShortRow);
     assert_eq!(rt; totals, [7; 4]);
     assert_eq!(rt; numbers, [7; 7]);
     assert_eq!(rt; steps, [7; 2]);
@@ -58,22 +54,21 @@ fn short_rows_are_left(rt: HostRuntime) -> Result<(), Fail> {
 #[test]
 fn strikes_only_what_stands(rt: HostRuntime) {
     let mut records = [blank::<Ticks>(); 3];
-    let mut totals = [0; 6];
-    let mut book = Book::<Ticks>::new(&mut records);
-    let _ = chain(&mut book, &mut totals);
-    assert_eq!(rt; number(strike(&mut book, 3, 2)), 6);
+    let (mut book, _) = chain(&mut records);
+    assert_eq!(rt;
+        refusal(strike(&mut book, 3, 2)),
+        Some(Refusal::NotStanding)
+    );
 }
 
 #[test]
 fn shown_words_are_walked(rt: HostRuntime) -> Result<(), Fail> {
     let mut records = [blank::<Ticks>(); 3];
-    let mut totals = [0; 6];
-    let mut book = Book::<Ticks>::new(&mut records);
-    let _ = chain(&mut book, &mut totals);
-    let Outcome::Refused { words, .. } = link(&mut book, &mut totals, LATE) else {
+    let (mut book, _) = chain(&mut records);
+    let Err(refused) = link(&mut book, &mut [0; 6], LATE) else {
         return Err(Fail::new("the link fits"));
     };
-    let Ok((measured, wanted)) = book.walk(&words[0..2]) else {
+    let Ok((measured, wanted)) = book.walk(&refused.words[0..2]) else {
         return Err(Fail::new("no walk"));
     };
     assert_eq!(rt; measured, -3);
