@@ -1,4 +1,5 @@
 ghost use Rattle.std.specs.Prelude.{◌≡◌, ◌≤◌, true, false, [], ◌∷◌, MatchResult};
+ghost use Rattle.book.specs.Memory.{rows_of};
 ghost use Rattle.calls.specs.State.{Inside, Enough};
 ghost use Rattle.calls.specs.declared.Refusal.TheVariants.{Issued, UnknownSwitch, ShortRow};
 
@@ -18,23 +19,6 @@ pub(crate) fn check_inside(n: u32, i: u32, j: u32) -> Result<(), Refusal>
     }
 }
 
-// Whether the rows have the places that a search over n switches needs.
-pub(crate) fn check_rows(
-    n: usize,
-    totals: usize,
-    numbers: usize,
-    steps: usize,
-) -> Result<(), Refusal>
-    requires { n ≤ 1024 }
-    ensures { MatchResult result (λ _. Enough n (record { totals = totals; numbers = numbers; steps = steps })) (λ e. (e ≡ ShortRow) × (Enough n (record { totals = totals; numbers = numbers; steps = steps }) → ⊥)) }
-{
-    if 2 * n <= totals && 4 * n <= numbers && n <= steps {
-        Ok(())
-    } else {
-        Err(Refusal::ShortRow)
-    }
-}
-
 impl<'a, K: Kind> Book<'a, K> {
     // An issued book takes no change.
     pub(crate) fn check_not_issued(&self) -> Result<(), Refusal>
@@ -44,6 +28,23 @@ impl<'a, K: Kind> Book<'a, K> {
             Err(Refusal::Issued)
         } else {
             Ok(())
+        }
+    }
+
+    // Whether the rows have the places that a search over the book's switches needs.
+    pub(crate) fn check_rows(
+        &self,
+        totals: &[K::Total],
+        numbers: &[u32],
+        steps: &[u32],
+    ) -> Result<(), Refusal>
+        ensures { MatchResult result (λ _. Enough self.now.store.n (rows_of totals.now numbers.now steps.now)) (λ e. (e ≡ ShortRow) × (Enough self.now.store.n (rows_of totals.now numbers.now steps.now) → ⊥)) }
+    {
+        let n = self.store.n as usize;
+        if 2 * n <= totals.len() && 4 * n <= numbers.len() && n <= steps.len() {
+            Ok(())
+        } else {
+            Err(Refusal::ShortRow)
         }
     }
 }

@@ -9,7 +9,7 @@ ghost use Rattle.book.specs.Memory.{state_of, capacity_of, records, rows_of, sho
 ghost use Rattle.book.specs.Search.{Joins, Nowhere};
 
 use crate::book::Book;
-use crate::check::{check_inside, check_rows};
+use crate::check::check_inside;
 use crate::store::Refused;
 use calls::Refusal;
 use kind::Kind;
@@ -22,11 +22,11 @@ impl<'a, K: Kind> Book<'a, K> {
     fn check_link(
         &self,
         new: Link<K::Latency>,
-        totals: usize,
-        numbers: usize,
-        steps: usize,
+        totals: &[K::Total],
+        numbers: &[u32],
+        steps: &[u32],
     ) -> Result<(), Refusal>
-        ensures { MatchResult result (λ _. Ready K.Kind.meaning (state_of K.Kind.meaning self.now.store) (link_of K.Kind.meaning new) (record { totals = totals; numbers = numbers; steps = steps }) × Nowhere (Joins new.from new.to) (records self.now.store)) (λ e. First (checks K.Kind.meaning (state_of K.Kind.meaning self.now.store) (LINK (link_of K.Kind.meaning new) (record { totals = totals; numbers = numbers; steps = steps }))) e []) }
+        ensures { MatchResult result (λ _. Ready K.Kind.meaning (state_of K.Kind.meaning self.now.store) (link_of K.Kind.meaning new) (rows_of totals.now numbers.now steps.now) × Nowhere (Joins new.from new.to) (records self.now.store)) (λ e. First (checks K.Kind.meaning (state_of K.Kind.meaning self.now.store) (LINK (link_of K.Kind.meaning new) (rows_of totals.now numbers.now steps.now))) e []) }
     {
         self.check_not_issued()?;
         check_inside(self.store.n, new.from, new.to)?;
@@ -39,7 +39,7 @@ impl<'a, K: Kind> Book<'a, K> {
         if self.store.is_full() {
             return Err(Refusal::Full);
         }
-        check_rows(self.store.n as usize, totals, numbers, steps)
+        self.check_rows(totals, numbers, steps)
     }
 
     // Writes the record behind the standing ones, where it may stand.
@@ -67,7 +67,7 @@ impl<'a, K: Kind> Book<'a, K> {
         ensures records { Entered result new self.old.store self.new.store }
         ensures rows { RowsLeft self.old.store.n result totals.old totals.new numbers.old numbers.new steps.old steps.new }
     {
-        self.check_link(new, totals.len(), numbers.len(), steps.len())?;
+        self.check_link(new, totals, numbers, steps)?;
         link_verdict::<K>(&self.network(), &new, totals, numbers, steps)?;
         self.append(new);
         Ok(())

@@ -5,7 +5,7 @@ ghost use Rattle.calls.specs.Verdicts.{OffsetVerdict};
 ghost use Rattle.book.specs.Memory.{state_of, rows_of, single, Answered, RowsUsed};
 
 use crate::book::Book;
-use crate::check::{check_inside, check_rows};
+use crate::check::check_inside;
 use calls::Refusal;
 use kind::Kind;
 use search::{Unknown, offset_between};
@@ -25,12 +25,7 @@ impl<'a, K: Kind> Book<'a, K> {
         ensures rows { RowsUsed self.now.store.n result totals.old totals.new numbers.old numbers.new }
     {
         check_inside(self.store.n, i, j)?;
-        check_rows(
-            self.store.n as usize,
-            totals.len(),
-            numbers.len(),
-            steps.len(),
-        )?;
+        self.check_rows(totals, numbers, steps)?;
         match offset_between::<K>(&self.network(), i, j, totals, numbers) {
             Ok(t) => Ok(t),
             Err(Unknown::Torn) => Err(Refusal::Torn),

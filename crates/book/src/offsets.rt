@@ -3,7 +3,6 @@ ghost use Rattle.calls.specs.State.{OFFSETS};
 ghost use Rattle.book.specs.Memory.{rows_of, row_answer, Answered, RowsUsed, Near};
 
 use crate::book::Book;
-use crate::check::check_rows;
 use calls::Refusal;
 use kind::Kind;
 use search::{Torn, grounded_offsets};
@@ -21,12 +20,7 @@ impl<'a, K: Kind> Book<'a, K> {
         ensures reach { Near K.Kind.meaning self.now.store.n result (take self.now.store.n totals.new) }
         ensures rows { RowsUsed self.now.store.n result totals.old totals.new numbers.old numbers.new }
     {
-        check_rows(
-            self.store.n as usize,
-            totals.len(),
-            numbers.len(),
-            steps.len(),
-        )?;
+        self.check_rows(totals, numbers, steps)?;
         match grounded_offsets::<K>(&self.network(), totals, numbers) {
             Ok(()) => Ok(()),
             Err(Torn) => Err(Refusal::Torn),

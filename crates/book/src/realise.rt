@@ -4,7 +4,6 @@ ghost use Rattle.calls.specs.Verdicts.{RealiseVerdict, LoopReadsBack};
 ghost use Rattle.book.specs.Memory.{state_of, rows_of, shown_offsets, shown, Answered, RowsLeft, Near};
 
 use crate::book::Book;
-use crate::check::check_rows;
 use crate::store::Refused;
 use calls::Refusal;
 use kind::Kind;
@@ -25,12 +24,7 @@ impl<'a, K: Kind> Book<'a, K> {
         if !K::is_ordered() {
             return Err(Refusal::Unordered.into());
         }
-        check_rows(
-            self.store.n as usize,
-            totals.len(),
-            numbers.len(),
-            steps.len(),
-        )?;
+        self.check_rows(totals, numbers, steps)?;
         least_offsets::<K>(&self.network(), totals, numbers, steps)?;
         Ok(())
     }
