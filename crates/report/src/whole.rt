@@ -151,8 +151,7 @@ pub fn run_file(
 }
 
 /// The words of a call are read back as the call.
-pub fn format_stands() -> u8
+pub fn format_stands()
     ensures { ReadsBack }
 {
-    0
 }
