@@ -2,11 +2,8 @@ use Rattle.std.proofs.Common.{◌-◌, ◌<◌, length, arith}
 use Rattle.search.specs.Records.{graph_of}
 use Rattle.search.proofs.Wiring.{wired}
 use Rattle.schedule.specs.Rows.{entry}
-use Rattle.schedule.proofs.Marks.{unmarked, room, there, mark, on, circle}
+use Rattle.schedule.proofs.Marks.{room, there, mark, on, circle}
 use Rattle.schedule.proofs.cycle.find_loop.Goals as goal
-
-pub loop-marks-init : goal.loop-marks-init
-loop-marks-init g c = (c.requires.inside, omega arith, unmarked (graph_of c.args.net.now.links.now) c.args.net.now.n (entry c.args.preds.now) c.args.v c.args.marks.now c.requires.clean)
 
 pub sender-u-requires : goal.sender-u-requires
 sender-u-requires g c =

@@ -1,20 +1,9 @@
-use Rattle.std.proofs.Common.{◌≡◌, ◌+◌, ◌-◌, length, set, subst, subst₂, arith}
+use Rattle.std.proofs.Common.{◌≡◌, ◌+◌, ◌-◌, length, set, subst₂, arith}
 use Rattle.search.specs.Records.{graph_of}
 use Rattle.search.proofs.Wiring.{wired}
 use Rattle.schedule.specs.Rows.{entry}
-use Rattle.schedule.proofs.Marks.{Writing, unwritten, ahead, next_on, write, written}
+use Rattle.schedule.proofs.Marks.{Writing, ahead, next_on, write}
 use Rattle.schedule.proofs.cycle.write_loop.Goals as goal
-
-pub loop-t-init : goal.loop-t-init
-loop-t-init g c =
-    let z : 0 ≡ c.args.m - c.args.m = omega arith in
-    (c.requires.inside, subst (λ t. Writing (graph_of c.args.net.now.links.now) (entry c.args.preds.now) c.args.u c.args.m c.args.steps.now c.args.steps.now t c.args.u) z (unwritten (graph_of c.args.net.now.links.now) (entry c.args.preds.now) c.args.u c.args.m c.args.steps.now))
-
-pub sender-x-requires : goal.sender-x-requires
-sender-x-requires g c =
-    let z = wired c.args.net.now.n (length c.args.net.now.links.now) c.args.net.now.links.now (omega arith) c.args.net.now.sound in
-    let q = ahead (graph_of c.args.net.now.links.now) (entry c.args.preds.now) c.args.u c.args.m c.args.steps.now (length c.args.net.now.links.now) c.args.net.now.n z c.requires.traced c.loop-t.steps (c.args.m - c.loop-t.t) c.loop-t.x c.loop-t.invariant.1 (omega arith) in
-    record { low = q.0; high = q.1 }
 
 pub loop-t-preserved : goal.loop-t-preserved
 loop-t-preserved g c =
@@ -26,9 +15,3 @@ loop-t-preserved g c =
       subst₂ (λ j k. Writing (graph_of c.args.net.now.links.now) (entry c.args.preds.now) c.args.u c.args.m c.args.steps.now (set c.loop-t.steps j c.word.result) k c.sender-x.result) i t
           (write (graph_of c.args.net.now.links.now) (entry c.args.preds.now) c.args.u c.args.m c.args.steps.now c.loop-t.steps (c.args.m - c.loop-t.t) c.loop-t.x c.loop-t.invariant.1 (omega arith) (omega (arith, c.requires.room, c.loop-t.auto.steps)) c.word.result c.sender-x.result (c.word.ensures.word (omega (arith, q.1, c.args.net.now.few))) c.sender-x.ensures),
     )
-
-pub returns : goal.returns
-returns g c =
-    let e : c.args.m - c.loop-t.t ≡ c.args.m = omega arith in
-    written (graph_of c.args.net.now.links.now) (entry c.args.preds.now) c.args.u c.args.m c.args.steps.now c.loop-t.steps c.loop-t.x
-    (subst (λ t. Writing (graph_of c.args.net.now.links.now) (entry c.args.preds.now) c.args.u c.args.m c.args.steps.now c.loop-t.steps t c.loop-t.x) e c.loop-t.invariant.1)

@@ -1,5 +1,4 @@
 use Rattle.std.proofs.Common.{◌≤◌, true, false, length, arith}
-use Rattle.schedule.proofs.Reading.{record_on}
 use Rattle.schedule.proofs.Hearing.{opens, hears, ends, outcome}
 use Rattle.schedule.proofs.round.round.Goals as goal
 use Rattle.schedule.proofs.round.round.Goals.{then-hear, else-hear}
@@ -8,19 +7,6 @@ pub loop-i-init : goal.loop-i-init
 loop-i-init g c =
     let M = g.K.Kind.meaning in
     (c.requires.size, opens M c.args.net.now.links.now c.args.net.now.n c.args.k c.args.rows.now.stamps.now c.args.rows.now.preds.now (M.order c.requires.ordered) c.args.net.now.sound c.args.row.now c.keep.new.row c.requires.after c.keep.ensures.front c.keep.ensures.behind c.requires.near)
-
-pub hear-requires : goal.hear-requires
-hear-requires g c =
-    let on = record_on c.args.net.now.n c.args.net.now.links.now c.loop-i.i c.link-item.result c.args.net.now.sound c.loop-i-test.true c.link-item.is in
-    record {
-      early = c.requires.early;
-      size = c.loop-i.invariant.0;
-      totals = omega (arith, c.requires.totals, c.keep.auto.row, c.loop-i.auto.row);
-      from = on.0;
-      to = on.1;
-      near = c.loop-i.invariant.1.near;
-      behind = c.loop-i.invariant.1.behind;
-    }
 
 pub loop-i-preserved : goal.loop-i-preserved
 loop-i-preserved g c =

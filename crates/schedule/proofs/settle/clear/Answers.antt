@@ -1,20 +1,8 @@
-use Rattle.std.proofs.Common.{ℕ, ◌≤◌, ◌++◌, length, drop, length-append, length-take, ◌≡◌, ◌-◌, get_or, set, sym, ap, ◌∙◌, subst, inl, inr, arith}
-use Rattle.std.proofs.lemmas.List.{get_or_append_left, get_or-set_same, get_or-set_other}
-use Rattle.std.proofs.lemmas.Bool.{cases_eq}
+use Rattle.std.proofs.Common.{ℕ, ◌≤◌, ◌++◌, length, drop, length-append, length-take, ◌≡◌, ◌-◌, get_or, sym, ap, ◌∙◌, subst, arith}
+use Rattle.std.proofs.lemmas.List.{get_or_append_left}
 use Rattle.search.specs.Records.{On}
 use Rattle.schedule.proofs.Reading.{mean}
 use Rattle.schedule.proofs.settle.clear.Goals as goal
-
-pub loop-total-preserved : goal.loop-total-preserved
-loop-total-preserved g c v d h =
-    elim (cases_eq v c.loop-total.total-index) [
-      | inl e ↦ subst (λ x. (g.K.Kind.meaning.total x ≡ g.K.Kind.meaning.quantities.zero) × g.K.Kind.meaning.within 0 x)
-          (sym (ap (λ i. get_or (set c.loop-total.total-items c.loop-total.total-index c.zero.result) i d) e ∙ get_or-set_same c.loop-total.total-items c.loop-total.total-index c.zero.result d (omega arith)))
-          c.zero.ensures
-      | inr e ↦ subst (λ x. (g.K.Kind.meaning.total x ≡ g.K.Kind.meaning.quantities.zero) × g.K.Kind.meaning.within 0 x)
-          (sym (get_or-set_other c.loop-total.total-items c.loop-total.total-index v c.zero.result d e))
-          (c.loop-total.invariant v d (omega arith))
-    ]
 
 pub returns : goal.returns
 returns g c =

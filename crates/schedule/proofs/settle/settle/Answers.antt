@@ -1,35 +1,8 @@
-use Rattle.std.proofs.Common.{◌≡◌, ◌+◌, ◌-◌, length, map, get_or, ◌∙◌, subst, arith}
+use Rattle.std.proofs.Common.{◌≡◌, ◌+◌, ◌-◌, map, get_or, ◌∙◌, subst, arith}
 use Rattle.search.specs.Records.{link_of}
-use Rattle.search.proofs.Filled.{zeros}
 use Rattle.schedule.specs.Rounds.{After}
 use Rattle.schedule.specs.Rows.{state_of, Near}
-use Rattle.schedule.proofs.Raising.{starts}
-use Rattle.schedule.proofs.Reading.{netted}
 use Rattle.schedule.proofs.settle.settle.Goals as goal
-
-pub loop-k-init : goal.loop-k-init
-loop-k-init g c =
-    let M = g.K.Kind.meaning in
-    let blank = zeros (length c.args.rows.now.stamps.now) c.fill.new.self (c.fill.ensures.after (λ y e. e)) in (
-      c.requires.size,
-      c.clear.ensures.near,
-      starts M (map (link_of M) c.args.net.now.links.now) (M.order c.requires.ordered) c.args.net.now.n (netted M c.args.net.now.n c.args.net.now.links.now c.args.net.now.sound) (state_of M c.clear.new.row c.fill.new.self c.args.rows.now.preds.now) c.clear.ensures.means (λ v o. blank (v - 1)),
-      ((omega arith, c.requires.low), blank (1 - 1)),
-    )
-
-pub round-requires : goal.round-requires
-round-requires g c =
-    record {
-      ordered = c.requires.ordered;
-      early = omega (arith, c.args.net.now.small);
-      size = c.loop-k.invariant.0;
-      totals = omega (arith, c.requires.totals, c.clear.auto.row, c.loop-k.auto.row);
-      near = c.loop-k.invariant.1;
-      after = c.loop-k.invariant.2;
-    }
-
-pub loop-k-preserved : goal.loop-k-preserved
-loop-k-preserved g c = (c.round.ensures.size, c.round.ensures.near, c.round.ensures.after, c.in_ok-raised.ensures.raised)
 
 pub returns-in_err-raised : goal.returns-in_err-raised
 returns-in_err-raised g c =
