@@ -9,4 +9,3 @@ pub mod Turning
 pub mod Growth
 pub mod Count
 pub mod Potential
-pub mod Ground

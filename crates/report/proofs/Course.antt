@@ -1,5 +1,5 @@
 -- A file's calls done one after another, with their lines put into a row.
-use Rattle.std.proofs.Common.{◌≡◌, ℕ, ◌+◌, ◌*◌, ◌<◌, ◌≤◌, cond, List, [], ◌∷◌, ◌++◌, length, take, Some, None, Ok, Err, Option, sym, refl, ap, ◌∙◌, subst, append_assoc, append-nil, arith, length-drop}
+use Rattle.std.proofs.Common.{◌≡◌, ℕ, ◌+◌, ◌*◌, ◌<◌, ◌≤◌, cond, List, [], ◌∷◌, ◌++◌, length, take, Some, None, Ok, Err, Option, sym, refl, ap, ◌∙◌, subst, append_assoc, arith, length-drop}
 use Rattle.std.proofs.lemmas.Bool.Decides.{nat_tests}
 use Rattle.std.proofs.lemmas.List.{length-take}
 use Rattle.kind.specs.Meaning.{Meaning}
@@ -67,9 +67,6 @@ module _ {L T : Type 0} (M : Meaning L T) (kind : FileKind) (capacity : ℕ) (ro
 
   unbroken : (file : List ℕ) (h : Entries) (f : FileFault) (r : Reading) (s : State M.quantities.Q) → History M kind capacity rows file h (Some f) r s → ahead r ≡ Ok None
   unbroken file h f _ s (broken _ r _ _ x y) = refl
-
-  pub started : (file : List ℕ) (h : Entries) (f : Option FileFault) (r : Reading) (s : State M.quantities.Q) (a : List ℕ) → History M kind capacity rows file h f r s → Going file h f r s a a 0
-  started file h f r s a ran = record { bytes = []; onward = record { entries = h; fault = f; ran = ran; lines = sym (append-nil _) }; wrote = writes.none a 0 }
 
   module _ (file : List ℕ) (h₀ : Entries) (f₀ : Option FileFault) (r : Reading) (s : State M.quantities.Q) (a b : List ℕ) (m m' : Lent T) (row row' : List ℕ) (at : ℕ) (l : Line) (same : sizes m ≡ rows) where
     pub goes : (r' : Reading) (s' : State M.quantities.Q) (c : List ℕ) (end : ℕ) → Going file h₀ f₀ r s a b at → Step M r s m m' row row' l r' s' → Wrote b at (take l.bytes row') c end → Going file h₀ f₀ r' s' a c end

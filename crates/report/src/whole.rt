@@ -153,5 +153,4 @@ pub fn run_file(
 /// The words of a call are read back as the call.
 pub fn format_stands()
     ensures { ReadsBack }
-{
-}
+{}

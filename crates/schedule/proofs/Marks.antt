@@ -1,5 +1,5 @@
 -- Going back with a mark on each switch, and writing the steps of the circle that it comes to.
-use Rattle.std.proofs.Common.{◌≡◌, ℕ, zero, suc, ◌+◌, ◌-◌, ◌<◌, ◌≤◌, List, [], ◌∷◌, map, length, get_or, take, drop, set, sym, refl, ap, ◌∙◌, subst, inl, inr, add-one, arith}
+use Rattle.std.proofs.Common.{◌≡◌, ℕ, zero, suc, ◌+◌, ◌-◌, ◌<◌, ◌≤◌, List, [], ◌∷◌, map, length, take, drop, set, sym, refl, ap, ◌∙◌, subst, inl, inr, add-one, arith}
 use Rattle.std.specs.List.{AllByRecursion}
 use Rattle.std.proofs.lemmas.List.{get_or-set_same, get_or-set_other, drop-set, drop-set-lt}
 use Rattle.std.proofs.lemmas.Bool.{cases_eq}
@@ -48,9 +48,6 @@ pub record Marked (g : Graph) (n : ℕ) (pred : ℕ → ℕ) (v : ℕ) (marks : 
   pub here : u ≡ back g pred v t
   pub put : (i : ℕ) → i < t → entry marks (back g pred v i) ≡ i + 1
   pub came : (x : ℕ) → On n x → 1 ≤ entry marks x → (entry marks x ≤ t) × (back g pred v (entry marks x - 1) ≡ x)
-
-pub unmarked : (g : Graph) (n : ℕ) (pred : ℕ → ℕ) (v : ℕ) (marks : List ℕ) → ((i : ℕ) → get_or marks i 0 ≡ 0) → Marked g n pred v marks 0 v
-unmarked g n pred v marks z = record { low = omega arith; here = refl; put = λ i h. absurd (omega arith); came = λ x o h. absurd (omega (arith, z (x - 1))) }
 
 module _ (g : Graph) (count n : ℕ) (wired : Wired g count n) (pred : ℕ → ℕ) (v : ℕ) (o : On n v) (traced : Traced g count n pred v) where
   back_on : (t : ℕ) → t ≤ n → On n (back g pred v t)
@@ -125,9 +122,6 @@ pub record Writing (g : Graph) (pred : ℕ → ℕ) (u m : ℕ) (row row' : List
   pub rest : drop m row' ≡ drop m row
 
 module _ (g : Graph) (pred : ℕ → ℕ) (u m : ℕ) (row : List ℕ) where
-  pub unwritten : Writing g pred u m row row 0 u
-  unwritten = record { here = refl; done = refl; rest = refl }
-
   module _ (count n : ℕ) (wired : Wired g count n) (traced : Traced g count m pred u) (row' : List ℕ) (t x : ℕ) (H : Writing g pred u m row row' t x) (l : t < m) where
     pub ahead : (1 ≤ pred x) × (pred x ≤ count)
     ahead = subst (λ y. (1 ≤ pred y) × (pred y ≤ count)) (sym H.here) (traced t l)

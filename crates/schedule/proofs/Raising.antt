@@ -44,16 +44,6 @@ module _ {L T : Type 0} (M : Meaning L T) (links : List (Link M.quantities.Q)) w
     pub others : (v : ℕ) → On n v → (v ≡ l.to → ⊥) → Kept t t' v
 
   module _ (O : Ordered M.quantities M.below) (n : ℕ) (wired : Wired (graph M.quantities links) (length links) n) where
-    pub starts : (s : State Q) → ((v : ℕ) → On n v → s.offset v ≡ M.quantities.zero) → ((v : ℕ) → On n v → s.stamp v ≡ 0) → After M links n 0 s
-    starts s z f =
-        record {
-          early = λ v o. omega (arith, f v o);
-          closed = λ p o h. absurd (omega arith);
-          led = λ v o h. absurd (omega (arith, f v o));
-          up = λ v a b. ap M.below (z v (a, b)) ∙ O.level;
-          least = λ b r v x y. subst (λ q. AtMost M q (b v)) (sym (z v (x, y))) (le_zero O (b v) (r.0 v x y));
-        }
-
     -- while a round goes on
     module _ (k : ℕ) (s : State Q) where
       pub begins : (t : State Q) → ((v : ℕ) → On n v → Kept s t v) → Partly n k 0 s t
