@@ -56,6 +56,7 @@ pub struct Store<'a, L> {
     pub links: &'a mut [Link<L>],
     pub count: usize,
     pub n: u32,
+    // turned on and off by calls of a file, so a value and no type of its own
     pub issued: bool,
 }
 

@@ -45,6 +45,7 @@ fn do_walk<K: Kind>(book: &Book<K>, bytes: &[u8]) -> Result<Good<K::Total>, Call
     requires { length (words_of bytes.now) ≤ 1024 }
     ensures { (m : Lent K.Total) → Did K.Kind.meaning (state_of K.Kind.meaning book.now.store) (walk (words_of bytes.now)) result (state_of K.Kind.meaning book.now.store) m m }
 {
+    // Without a heap: an array, and how many of its words are the call's.
     let mut words = [0u32; MAX_WALK as usize];
     let n = fill(&mut words, bytes);
     let (measured, wanted) = book.walk(&words[..n])?;

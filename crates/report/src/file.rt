@@ -282,5 +282,6 @@ pub struct Place<'f> {
     pub kind: FileKind,
     pub rest: &'f [u8],
     pub read: u32,
+    // seen only while a file is read, so a value and no type of its own
     pub ended: bool,
 }

@@ -40,7 +40,8 @@ pub(crate) fn all_carried<K: Kind>(net: &Network<'_, K::Latency>, row: &[K::Tota
     true
 }
 
-// The offset of every switch, from its root: whether they carry every link.
+// The offset of every switch, from its root: whether they carry every link. A bool and no Result, since the row is
+// written in both cases, and of use in both.
 pub(crate) fn carry<K: Kind>(
     net: &Network<'_, K::Latency>,
     up: &[u32],
