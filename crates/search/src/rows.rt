@@ -2,6 +2,9 @@ ghost use Rattle.std.specs.Prelude.{◌≡◌, ◌*◌, ◌≤◌, length};
 
 // What a search works in, over numbers that are lent, so without memory of its own: a place for each switch in every row: the label of its group, the word of its step up to its
 // parent, a stack of switches, and their marks.
+//
+// The Network stands beside them: it is only read, and a struct of both would have to say after each call that it holds the
+// same links still. A function that writes some of the rows takes these alone, which tells its caller that the others stay.
 #[derive(Drop)]
 pub(crate) struct Rows<'r> {
     pub labels: &'r mut [u32],
