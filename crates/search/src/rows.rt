@@ -1,7 +1,7 @@
 ghost use Rattle.std.specs.Prelude.{◌≡◌, ◌*◌, ◌≤◌, length};
 
-// What a search works in, over numbers that are lent, so without memory of its own: a place for each switch in every row: the label of its group, the word of its step up to its
-// parent, a stack of switches, and their marks.
+// What a search works in, a place for each switch in every row: the label of its group, the word of its step up to its
+// parent, a stack of switches, and their marks. The rows are lent, since the library has no memory of its own.
 //
 // The Network stands beside them: it is only read, and a struct of both would have to say after each call that it holds the
 // same links still. A function that writes some of the rows takes these alone, which tells its caller that the others stay.
