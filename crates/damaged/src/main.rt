@@ -17,6 +17,7 @@ fn main(rt: HostRuntime) -> anyhow::Result<()> {
     let mut tick_links = [Link::blank(tick); 64];
     let mut place_links = [Link::blank(place); 64];
     let mut report = [0u8; 4096];
+    // The call with its eight rows, as a user writes it; rows of other sizes than those of the samples.
     let (Ok(written) | Err(Full(written))) = run_file(
         file.as_slice(),
         &mut tick_links,

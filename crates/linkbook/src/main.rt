@@ -24,6 +24,7 @@ const MAX_PIECES: u32 = 65536;
 fn main(rt: HostRuntime) -> anyhow::Result<()> {
     let mut file = Vec::new(rt.alloc());
     rt.stdin().take(FILE_ROOM).read_to_end(&mut file)?;
+    // The kinds that a head can name are fixed, so a match, which leaves none out.
     match FileKind::of(file.as_slice()) {
         FileKind::Ticks => print_report::<Ticks>(rt, FileKind::Ticks, file.as_slice()),
         FileKind::CyclePlaces => print_report::<Places>(rt, FileKind::CyclePlaces, file.as_slice()),

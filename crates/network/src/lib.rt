@@ -8,7 +8,7 @@ ghost use Rattle.network.specs.Words.{word, decode, Decoded};
 
 use kind::Kind;
 
-// A step word is one of these and the link's position, which is below the last.
+// A step word is FORWARD or BACKWARD plus the link's position, which is below POSITIONS.
 const FORWARD: u32 = 0xA000_0000;
 
 const BACKWARD: u32 = 0xB000_0000;
@@ -42,7 +42,7 @@ impl Step {
         }
     }
 
-    /// The step's word, from which it is read back.
+    /// The step's word, from which it is read back, for a position below 268,435,456.
     pub fn word(self) -> u32
         ensures word { place self < 268435456 → result ≡ word self }
         ensures back { place self < 268435456 → decode result ≡ Some self }

@@ -56,6 +56,7 @@ pub(crate) fn write_loop<L: Copy>(
     ensures { Written steps.old steps.new m (trail (graph_of net.now.links.now) (entry preds.now) u m) }
 {
     let mut x = u;
+    // By index: of what is written through an adapter of `iter_mut` a proof knows nothing.
     for t in (0..m).rev() {
         let p = preds[x as usize - 1];
         steps[t] = Step::Forward(p as usize).word();

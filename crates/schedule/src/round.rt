@@ -10,7 +10,7 @@ use crate::rows::Rows;
 use kind::Kind;
 use search::{Link, Network};
 
-// Copies the first n totals behind themselves, for a round to read while it writes.
+// Copies the first n totals behind themselves in the one row that is lent, for a round to read while it writes.
 fn keep<T: Copy>(row: &mut [T], n: usize)
     requires small { n ≤ 1024 }
     requires size { 2 * n ≤ length row.old }

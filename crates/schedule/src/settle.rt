@@ -1,4 +1,4 @@
-ghost use Rattle.std.specs.Prelude.{◌≡◌, ℕ, ◌*◌, ◌≤◌, true, map, length, IfSome, IfNone, slice_index};
+ghost use Rattle.std.specs.Prelude.{◌≡◌, ◌*◌, ◌≤◌, true, map, length, IfSome, IfNone};
 ghost use Rattle.search.specs.Records.{link_of, On};
 ghost use Rattle.search.specs.Settled.{offset};
 ghost use Rattle.schedule.specs.Least.{Realises, Least};
@@ -15,6 +15,7 @@ fn clear<K: Kind>(row: &mut [K::Total], n: usize)
     requires { n ≤ length row.old }
     ensures { Zero K.Kind.meaning n row.new }
 {
+    // No `fill`: it asks for a clone that cannot fail, which no bound on a kind's totals gives.
     for total in &mut row[..n] {
         *total = K::zero();
     }
@@ -38,6 +39,7 @@ pub(crate) fn settle<K: Kind>(
 {
     clear::<K>(row, net.n);
     rows.stamps.fill(0);
+    // Any switch: round 1 replaces it.
     let mut raised: u32 = 1;
     for k in 0..net.n {
         raised = round::<K>(net, rows, row, k as u32)?;

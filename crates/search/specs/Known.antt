@@ -4,8 +4,8 @@ use Rattle.kind.specs.Meaning.{Meaning}
 use Rattle.network.specs.Offsets.{Carries, Fits}
 use Rattle.network.specs.Theorems.{Linked}
 use Rattle.search.specs.declared.link.Link.{Link as Record}
-use Rattle.search.specs.declared.unknown.Unknown.{Unknown}
-use Rattle.search.specs.declared.unknown.Unknown.TheVariants.{Torn, Apart}
+use Rattle.search.specs.declared.errors.Unknown.{Unknown}
+use Rattle.search.specs.declared.errors.Unknown.TheVariants.{Torn, Apart}
 use Rattle.search.specs.Records.{link_of, On}
 use Rattle.search.specs.Settled.{offset}
 

@@ -6,7 +6,7 @@ use Rattle.network.specs.Graph.{Path}
 use Rattle.network.specs.Offsets.{Link, graph, Fits}
 use Rattle.network.specs.Theorems.{Linked, Joins}
 use Rattle.search.specs.Written.{Written}
-use Rattle.search.specs.declared.unknown.Contradiction.{Contradiction}
+use Rattle.search.specs.declared.errors.Contradiction.{Contradiction}
 
 -- the one path of joining links from the link's second switch back to its first; none where nothing connects them
 abbrev pub WayBack : (K : Quantities) → List (Link K.Q) → Link K.Q → List Step → Type 0

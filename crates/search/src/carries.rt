@@ -1,10 +1,11 @@
-ghost use Rattle.std.specs.Prelude.{◌≡◌, ℕ, ◌+◌, ◌-◌, ◌<◌, ◌≤◌, true, false, List, map, length};
+ghost use Rattle.std.specs.Prelude.{◌≡◌, ℕ, ◌-◌, ◌<◌, ◌≤◌, true, false, map, length, MatchResult};
 ghost use Rattle.network.specs.Climb.{Forest};
 ghost use Rattle.network.specs.Offsets.{Carried, Carries, Fits};
 ghost use Rattle.search.specs.Parents.{parents};
-ghost use Rattle.search.specs.Records.{link_of, graph_of, On, Sound};
+ghost use Rattle.search.specs.Records.{link_of, graph_of, On};
 ghost use Rattle.search.specs.Settled.{Placed, offset, Reached};
 
+use crate::errors::Torn;
 use crate::link::Link;
 use crate::net::Network;
 use crate::offsets::settle_all;
@@ -40,23 +41,26 @@ pub(crate) fn all_carried<K: Kind>(net: &Network<'_, K::Latency>, row: &[K::Tota
     true
 }
 
-// The offset of every switch, from its root: whether they carry every link. A bool and no Result, since the row is
-// written in both cases, and of use in both.
+// Writes the offset of every switch, from its root. They carry every link, or no offsets do. The rows are passed one by
+// one: what is known of each before is known of it after, but for those that are written.
 pub(crate) fn carry<K: Kind>(
     net: &Network<'_, K::Latency>,
     up: &[u32],
     stack: &mut [u32],
     marks: &mut [u32],
     row: &mut [K::Total],
-) -> bool
+) -> Result<(), Torn>
     requires forest { Forest (graph_of net.now.links.now) (length net.now.links.now) (parents up.now) }
     requires size { length up.now ≡ net.now.n }
     requires sizes { (net.now.n ≤ length marks.old) × (net.now.n ≤ length row.old) × (net.now.n ≤ length stack.old) }
     ensures placed { (v : ℕ) → On net.now.n v → Placed K.Kind.meaning net.now.links.now up.now row.new v }
     ensures near { Reached K.Kind.meaning net.now.n row.new }
-    ensures yes { result ≡ true → Carries K.Kind.meaning.quantities (offset K.Kind.meaning row.new) (map (link_of K.Kind.meaning) net.now.links.now) }
-    ensures no { Fits K.Kind.meaning.quantities (map (link_of K.Kind.meaning) net.now.links.now) → result ≡ true }
+    ensures carries { MatchResult result (λ _. Carries K.Kind.meaning.quantities (offset K.Kind.meaning row.new) (map (link_of K.Kind.meaning) net.now.links.now)) (λ _. Fits K.Kind.meaning.quantities (map (link_of K.Kind.meaning) net.now.links.now) → ⊥) }
 {
     settle_all::<K>(net, up, stack, marks, row);
-    all_carried::<K>(net, row)
+    if all_carried::<K>(net, row) {
+        Ok(())
+    } else {
+        Err(Torn)
+    }
 }

@@ -1,4 +1,4 @@
-ghost use Rattle.std.specs.Prelude.{◌≡◌, ℕ, suc, ◌+◌, ◌-◌, ◌<◌, ◌≤◌, List, length, None, ◌≢◌, slice_index};
+ghost use Rattle.std.specs.Prelude.{◌≡◌, ℕ, ◌+◌, ◌-◌, ◌<◌, ◌≤◌, length, None, ◌≢◌, slice_index};
 ghost use Rattle.network.specs.Graph.{place, start, end, Connected, Upto};
 ghost use Rattle.search.specs.Joined.{label, Joined};
 ghost use Rattle.search.specs.Grouped.{Rising, Leader, Found, under, Grouped};
@@ -21,6 +21,7 @@ pub(crate) fn reroot<L: Copy>(net: &Network<'_, L>, up: &mut [u32], count: usize
     ensures others { (v : ℕ) → (Connected (graph_of net.now.links.now) (Upto count) i v → ⊥) → parents up.new v ≡ parents up.old v }
 {
     let mut x = i;
+    // 0 is no step word, so a root's.
     let mut hang: u32 = 0;
     while let Some(s) = step_up(up, x) {
         up[x as usize - 1] = hang;

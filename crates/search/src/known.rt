@@ -4,11 +4,11 @@ ghost use Rattle.search.specs.Records.{link_of, On};
 ghost use Rattle.search.specs.Known.{Tells, Grounded};
 
 use crate::carries::carry;
+use crate::errors::{Torn, Unknown};
 use crate::forest::{join, reroot};
 use crate::lowest::root_lowest;
 use crate::net::Network;
 use crate::rows::Rows;
-use crate::unknown::{Torn, Unknown};
 use kind::Kind;
 
 // With i at the root of its tree, the offsets of its group are the differences to it.
@@ -27,9 +27,7 @@ fn difference<K: Kind>(
 {
     join(net, rows.labels, rows.stack, rows.up);
     reroot(net, rows.up, net.links.len(), i);
-    if !carry::<K>(net, rows.up, rows.stack, rows.marks, offsets) {
-        return Err(Unknown::Torn);
-    }
+    carry::<K>(net, rows.up, rows.stack, rows.marks, offsets)?;
     if rows.labels[i as usize - 1] != rows.labels[j as usize - 1] {
         return Err(Unknown::Apart);
     }
@@ -70,11 +68,7 @@ fn grounded<K: Kind>(
 {
     join(net, rows.labels, rows.stack, rows.up);
     root_lowest(net, rows.labels, rows.marks, rows.up);
-    if carry::<K>(net, rows.up, rows.stack, rows.marks, offsets) {
-        Ok(())
-    } else {
-        Err(Torn)
-    }
+    carry::<K>(net, rows.up, rows.stack, rows.marks, offsets)
 }
 
 /// Writes offsets that carry the links, zero at the lowest switch of every group, over rows of which only what n switches

@@ -1,6 +1,7 @@
 #![tactic(auto)]
 
 mod carries;
+mod errors;
 mod forest;
 mod known;
 mod link;
@@ -10,11 +11,10 @@ mod offsets;
 mod path;
 mod rows;
 mod steps;
-mod unknown;
 mod verdict;
 
+pub use self::errors::{Contradiction, Torn, Unknown};
 pub use self::known::{grounded_offsets, offset_between};
 pub use self::link::Link;
 pub use self::net::Network;
-pub use self::unknown::{Contradiction, Torn, Unknown};
 pub use self::verdict::link_verdict;

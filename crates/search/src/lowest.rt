@@ -1,4 +1,4 @@
-ghost use Rattle.std.specs.Prelude.{◌≡◌, ℕ, ◌+◌, ◌<◌, ◌≤◌, List, length, None};
+ghost use Rattle.std.specs.Prelude.{◌≡◌, ℕ, ◌+◌, ◌<◌, ◌≤◌, length, None};
 ghost use Rattle.network.specs.Climb.{Forest};
 ghost use Rattle.search.specs.Joined.{label, Labelled, Joined};
 ghost use Rattle.search.specs.Parents.{parents};

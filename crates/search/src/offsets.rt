@@ -1,4 +1,4 @@
-ghost use Rattle.std.specs.Prelude.{◌≡◌, ℕ, ◌+◌, ◌-◌, ◌*◌, ◌<◌, ◌≤◌, List, length, Some, None, ◌≢◌, slice_index};
+ghost use Rattle.std.specs.Prelude.{◌≡◌, ℕ, ◌+◌, ◌-◌, ◌<◌, ◌≤◌, length, Some, None, ◌≢◌, slice_index};
 ghost use Rattle.network.specs.declared.Step.{Step as Stride};
 ghost use Rattle.network.specs.Graph.{place, end};
 ghost use Rattle.network.specs.Climb.{Forest};
@@ -160,7 +160,7 @@ pub(crate) fn settle_all<K: Kind>(
     ensures { (v : ℕ) → On net.now.n v → Placed K.Kind.meaning net.now.links.now up.now row.new v }
 {
     marks.fill(0);
-    for i in 0..net.n {
-        settle::<K>(net, up, stack, marks, row, i as u32 + 1);
+    for v in 1..net.n as u32 + 1 {
+        settle::<K>(net, up, stack, marks, row, v);
     }
 }

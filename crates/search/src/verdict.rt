@@ -1,60 +1,39 @@
 ghost use Rattle.std.specs.Prelude.{◌≡◌, ◌*◌, ◌≤◌, true, [], ◌∷◌, ◌++◌, map, length, drop, IfErr};
-ghost use Rattle.network.specs.Offsets.{Carries, Fits};
+ghost use Rattle.network.specs.Offsets.{Fits};
 ghost use Rattle.search.specs.Records.{link_of, graph_of, On};
 ghost use Rattle.search.specs.Joined.{Joined};
-ghost use Rattle.search.specs.Settled.{offset, Reached};
 ghost use Rattle.search.specs.Verdict.{Shown, Judged};
 
 use crate::carries::{carried, carry};
+use crate::errors::Contradiction;
 use crate::forest::{join, reroot};
 use crate::link::Link;
 use crate::net::Network;
 use crate::path::climb;
 use crate::rows::Rows;
-use crate::unknown::Contradiction;
 use kind::Kind;
 
-// The labels, the forest and the offsets of the links: whether the links fit.
-pub(crate) fn survey<K: Kind>(
+// Whether the links and the new one fit. The labels and the forest of the links are left in the rows.
+fn fits_with<K: Kind>(
     net: &Network<'_, K::Latency>,
     rows: &mut Rows<'_>,
     offsets: &mut [K::Total],
+    new: &Link<K::Latency>,
 ) -> bool
     requires size { rows.old.n ≡ net.now.n }
     requires offsets { net.now.n ≤ length offsets.old }
-    ensures size { rows.new.n ≡ net.now.n }
-    ensures joined { Joined (graph_of net.now.links.now) (length net.now.links.now) net.now.n rows.new.labels.now rows.new.up.now }
-    ensures near { Reached K.Kind.meaning net.now.n offsets.new }
-    ensures yes { result ≡ true → Carries K.Kind.meaning.quantities (offset K.Kind.meaning offsets.new) (map (link_of K.Kind.meaning) net.now.links.now) }
-    ensures no { Fits K.Kind.meaning.quantities (map (link_of K.Kind.meaning) net.now.links.now) → result ≡ true }
-{
-    let up = &mut *rows.up;
-    join(net, rows.labels, rows.stack, up);
-    carry::<K>(net, up, rows.stack, rows.marks, offsets)
-}
-
-// Whether the links with a new one fit, after a survey of the links that found whether they do.
-fn fits_with<K: Kind>(
-    net: &Network<'_, K::Latency>,
-    rows: &Rows<'_>,
-    offsets: &[K::Total],
-    new: &Link<K::Latency>,
-    agree: bool,
-) -> bool
-    requires size { rows.now.n ≡ net.now.n }
-    requires offsets { net.now.n ≤ length offsets.now }
     requires from { On net.now.n new.now.from }
     requires to { On net.now.n new.now.to }
-    requires joined { Joined (graph_of net.now.links.now) (length net.now.links.now) net.now.n rows.now.labels.now rows.now.up.now }
-    requires near { Reached K.Kind.meaning net.now.n offsets.now }
-    requires yes { agree ≡ true → Carries K.Kind.meaning.quantities (offset K.Kind.meaning offsets.now) (map (link_of K.Kind.meaning) net.now.links.now) }
-    requires no { Fits K.Kind.meaning.quantities (map (link_of K.Kind.meaning) net.now.links.now) → agree ≡ true }
+    ensures size { rows.new.n ≡ net.now.n }
+    ensures joined { Joined (graph_of net.now.links.now) (length net.now.links.now) net.now.n rows.new.labels.now rows.new.up.now }
     ensures yes { result ≡ true → Fits K.Kind.meaning.quantities (map (link_of K.Kind.meaning) net.now.links.now ++ link_of K.Kind.meaning new.now ∷ []) }
     ensures no { Fits K.Kind.meaning.quantities (map (link_of K.Kind.meaning) net.now.links.now ++ link_of K.Kind.meaning new.now ∷ []) → result ≡ true }
 {
-    if !agree {
+    let up = &mut *rows.up;
+    join(net, rows.labels, rows.stack, up);
+    let Ok(()) = carry::<K>(net, up, rows.stack, rows.marks, offsets) else {
         return false;
-    }
+    };
     if rows.labels[new.from as usize - 1] != rows.labels[new.to as usize - 1] {
         return true;
     }
@@ -99,8 +78,7 @@ fn judge<K: Kind>(
     ensures short { IfErr result (λ e. e.steps ≤ net.now.n) }
     ensures verdict { Judged K.Kind.meaning.quantities (map (link_of K.Kind.meaning) net.now.links.now) (link_of K.Kind.meaning new.now) steps.old steps.new result }
 {
-    let agree = survey::<K>(net, rows, offsets);
-    if fits_with::<K>(net, rows, offsets, new, agree) {
+    if fits_with::<K>(net, rows, offsets, new) {
         return Ok(());
     }
     Err(Contradiction {

@@ -9,6 +9,7 @@ use book::{Book, Link};
 use calls::Refusal;
 use kinds::{TickLatency, Ticks};
 
+// Links of a worked example: data, which each example has of its own.
 const FIRST: Link<i32> = Link {
     from: 1,
     to: 2,

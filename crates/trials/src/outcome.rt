@@ -7,6 +7,7 @@ use calls::Refusal;
 pub struct ShownRefusal {
     pub refusal: Refusal,
     pub steps: usize,
+    // the whole row, so that a theorem tells the places left zero too
     pub words: [u32; 3],
 }
 

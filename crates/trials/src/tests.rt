@@ -5,7 +5,7 @@ use book::{Book, Link};
 use kinds::Ticks;
 use std::test::Fail;
 
-// The number of the refusal, or 0.
+// The number of the refusal, as a report prints it, or 0.
 fn number(outcome: Outcome) -> u32 {
     outcome.err().map_or(0, |shown| shown.refusal.number())
 }

@@ -6,26 +6,35 @@ use Rattle.search.specs.Settled.{offset}
 use Rattle.search.proofs.Verdicts.{fits_more, fits_old, near_carried, near, not_near}
 use Rattle.search.proofs.verdict.fits_with.Goals as goal
 
-pub returns-then-not-agree : goal.returns-then-not-agree
-returns-then-not-agree g c =
+pub returns-in_default : goal.returns-in_default
+returns-in_default g c =
+    let M = g.K.Kind.meaning in
     record {
+      size = c.requires.size;
+      joined = c.join.ensures;
       yes = λ e. absurd (both_ways false refl e);
-      no = λ f. absurd (both_ways c.args.agree c.if-not-agree.true (c.requires.no (fits_old g.K.Kind.meaning.quantities (map (link_of g.K.Kind.meaning) c.args.net.now.links.now) (link_of g.K.Kind.meaning c.args.new.now) f)));
+      no = λ f. absurd (c.in_default.ensures.carries (fits_old M.quantities (map (link_of M) c.args.net.now.links.now) (link_of M c.args.new.now) f));
     }
 
 pub returns-then-rows-new : goal.returns-then-rows-new
 returns-then-rows-new g c =
+    let M = g.K.Kind.meaning in
     record {
-      yes = λ e. (theory g.K.Kind.meaning.quantities (map (link_of g.K.Kind.meaning) c.args.net.now.links.now)).add_apart (link_of g.K.Kind.meaning c.args.new.now) (offset g.K.Kind.meaning c.args.offsets.now, c.requires.yes c.if-not-agree.false)
-          (not_near g.K.Kind.meaning c.args.net.now.links.now c.args.net.now.n c.args.rows.now.labels.now c.args.rows.now.up.now c.requires.joined c.args.new.now c.requires.from c.requires.to c.if-rows-new.true);
+      size = c.requires.size;
+      joined = c.join.ensures;
+      yes = λ e. (theory M.quantities (map (link_of M) c.args.net.now.links.now)).add_apart (link_of M c.args.new.now) (offset M c.carry.new.row, c.in-Ok.ensures.carries)
+          (not_near M c.args.net.now.links.now c.args.net.now.n c.join.new.labels c.join.new.up c.join.ensures c.args.new.now c.requires.from c.requires.to c.if-rows-new.true);
       no = λ f. refl;
     }
 
 pub returns : goal.returns
 returns g c =
-    let h = c.requires.yes c.if-not-agree.false in
+    let M = g.K.Kind.meaning in
+    let h = c.in-Ok.ensures.carries in
     record {
-      yes = λ e. fits_more g.K.Kind.meaning.quantities (map (link_of g.K.Kind.meaning) c.args.net.now.links.now) (link_of g.K.Kind.meaning c.args.new.now) (offset g.K.Kind.meaning c.args.offsets.now) h (c.carried.ensures.yes e);
-      no = λ f. c.carried.ensures.no (near_carried g.K.Kind.meaning.quantities (map (link_of g.K.Kind.meaning) c.args.net.now.links.now) (link_of g.K.Kind.meaning c.args.new.now) (offset g.K.Kind.meaning c.args.offsets.now) h
-          (near g.K.Kind.meaning c.args.net.now.links.now c.args.net.now.n c.args.rows.now.labels.now c.args.rows.now.up.now c.requires.joined c.args.new.now c.requires.from c.requires.to c.if-rows-new.false) f);
+      size = c.requires.size;
+      joined = c.join.ensures;
+      yes = λ e. fits_more M.quantities (map (link_of M) c.args.net.now.links.now) (link_of M c.args.new.now) (offset M c.carry.new.row) h (c.carried.ensures.yes e);
+      no = λ f. c.carried.ensures.no (near_carried M.quantities (map (link_of M) c.args.net.now.links.now) (link_of M c.args.new.now) (offset M c.carry.new.row) h
+          (near M c.args.net.now.links.now c.args.net.now.n c.join.new.labels c.join.new.up c.join.ensures c.args.new.now c.requires.from c.requires.to c.if-rows-new.false) f);
     }

@@ -5,7 +5,7 @@ use Rattle.calls.specs.Calls.{unchanged, by_offset}
 use Rattle.calls.specs.Verdicts.{Posed}
 use Rattle.calls.proofs.Asking.{offset_torn, offset_apart, offset_known}
 use Rattle.search.specs.Known.{Tells}
-use Rattle.search.specs.declared.unknown.Unknown.TheVariants.{Torn, Apart}
+use Rattle.search.specs.declared.errors.Unknown.TheVariants.{Torn, Apart}
 use Rattle.book.specs.Memory.{state_of, rows_of}
 use Rattle.book.proofs.Promise.{answered, refuses}
 use Rattle.book.proofs.book.Book.difference.Goals as goal

@@ -1,3 +1,6 @@
+ghost use Rattle.std.specs.Prelude.{◌≡◌};
+ghost use Rattle.search.specs.declared.errors.Unknown.TheVariants.{Torn as UnknownTorn};
+
 /// No offsets carry the links.
 #[derive(Clone, Copy, Debug, PartialEq, Eq)]
 pub struct Torn;
@@ -9,6 +12,14 @@ pub enum Unknown {
     Torn,
     // no walk leads from one to the other, so that their difference is free
     Apart,
+}
+
+impl From<Torn> for Unknown {
+    ghost from_gives = { λ _ r. r ≡ UnknownTorn };
+
+    fn from(_torn: Torn) -> Unknown {
+        Unknown::Torn
+    }
 }
 
 /// No offsets carry the links and the new one: so many steps are written, which lead back from its receiver to its sender.
