@@ -12,12 +12,15 @@ use crate::offsets::settle_all;
 use kind::Kind;
 
 // Whether the offsets carry the link.
-pub(crate) fn carried<K: Kind>(link: &Link<K::Latency>, row: &[K::Total], n: usize) -> bool
-    requires small { n ≤ 1024 }
-    requires size { n ≤ length row.now }
-    requires from { On n link.now.from }
-    requires to { On n link.now.to }
-    requires near { Reached K.Kind.meaning n row.now }
+pub(crate) fn carried<K: Kind>(
+    net: &Network<'_, K::Latency>,
+    link: &Link<K::Latency>,
+    row: &[K::Total],
+) -> bool
+    requires size { net.now.n ≤ length row.now }
+    requires from { On net.now.n link.now.from }
+    requires to { On net.now.n link.now.to }
+    requires near { Reached K.Kind.meaning net.now.n row.now }
     ensures yes { result ≡ true → Carried K.Kind.meaning.quantities (offset K.Kind.meaning row.now) (link_of K.Kind.meaning link.now) }
     ensures no { Carried K.Kind.meaning.quantities (offset K.Kind.meaning row.now) (link_of K.Kind.meaning link.now) → result ≡ true }
 {
@@ -34,7 +37,7 @@ pub(crate) fn all_carried<K: Kind>(net: &Network<'_, K::Latency>, row: &[K::Tota
     ensures no { Carries K.Kind.meaning.quantities (offset K.Kind.meaning row.now) (map (link_of K.Kind.meaning) net.now.links.now) → result ≡ true }
 {
     for link in net.links {
-        if !carried::<K>(link, row, net.n) {
+        if !carried::<K>(net, link, row) {
             return false;
         }
     }

@@ -37,7 +37,7 @@ fn fits_with<K: Kind>(
     if rows.labels[new.from as usize - 1] != rows.labels[new.to as usize - 1] {
         return true;
     }
-    carried::<K>(new, offsets, net.n)
+    carried::<K>(net, new, offsets)
 }
 
 // Writes the steps that lead back from the new link's second switch to its first, and says how many they are.
