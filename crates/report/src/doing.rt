@@ -18,6 +18,7 @@ fn latencies<K: Kind>(m: i32, w: i32) -> Result<(K::Latency, K::Latency), Latenc
     Ok((measured, wanted))
 }
 
+// Rows are passed one by one, as the book takes them: each clause is about one row of the caller's.
 fn do_link<K: Kind>(
     book: &mut Book<K>,
     from: u32,

@@ -32,6 +32,11 @@ const ISSUE: u32 = 0xC000_0000;
 
 const RECALL: u32 = 0xD000_0000;
 
+// The heads: the first word of a file of each kind.
+const TICKS_HEAD: u32 = 0x1000_0000;
+
+const PLACES_HEAD: u32 = 0x1100_0000;
+
 /// The kind of latency that a head names.
 #[derive(Clone, Copy, Debug, PartialEq, Eq)]
 pub enum FileKind {
@@ -77,6 +82,7 @@ impl FileFault {
     }
 
     // The word at fault, from 1, or 0 for the file as a whole.
+    // 0 and no None: it is the number that the report prints.
     pub(crate) fn place(self) -> u32
         ensures { result ≡ file_place self }
     {
@@ -108,8 +114,8 @@ impl TryFrom<u32> for FileKind {
 
     fn try_from(w: u32) -> Result<FileKind, FileFault> {
         match w {
-            0x1000_0000 => Ok(FileKind::Ticks),
-            0x1100_0000 => Ok(FileKind::CyclePlaces),
+            TICKS_HEAD => Ok(FileKind::Ticks),
+            PLACES_HEAD => Ok(FileKind::CyclePlaces),
             _ => Err(FileFault::NoHead),
         }
     }
@@ -124,6 +130,7 @@ pub(crate) fn first_word(bytes: &[u8]) -> Option<(u32, &[u8])>
 }
 
 // Puts the words of the bytes into the row, and says how many.
+// By index: of what is written through an adapter of `iter_mut` a proof knows nothing.
 pub(crate) fn fill(row: &mut [u32], bytes: &[u8]) -> usize
     requires { length (words_of bytes.now) ≤ length row.old }
     ensures bound { result ≤ length row.new }
@@ -156,6 +163,7 @@ fn switches(w: u32) -> (u32, u32)
 }
 
 // A latency's number, in 28-bit two's complement.
+// By hand: no integer type has 28 bits.
 fn latency_number(w: u32) -> i32
     ensures { result ≡ signed28 w }
 {
@@ -167,6 +175,7 @@ fn latency_number(w: u32) -> i32
     }
 }
 
+// The number of a word, as a clause: a type for it would be taken apart at every sum.
 fn link_entry(place: u32, w: u32, bytes: &[u8]) -> Result<Option<Entry<'_>>, FileFault>
     requires { place ≤ 65536 }
     ensures { found_of result ≡ link_of place w (words_of bytes.now) }
@@ -272,6 +281,7 @@ pub(crate) fn words_taken(read: u32, e: Entry<'_>) -> usize
     ensures { result ≡ taken read (item_of e.entry) }
 {
     let own = width_of(e);
+    // No word is read before the head: 0 is a count here, and no code.
     if read == 0 { 1 + own } else { own }
 }
 

@@ -30,6 +30,7 @@ impl RowWriter<'_> {
         ensures bound { self.new.len ≤ self.old.len + 64 }
         ensures wrote { Appended self.old (asked (item_of e.entry)) self.new }
     {
+        // The calls are fixed, so a match, which leaves none out.
         match e {
             Entry::Size(n) => {
                 self.text(b"SIZE ");
