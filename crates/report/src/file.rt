@@ -2,6 +2,8 @@ ghost use Rattle.std.specs.Prelude.{◌≡◌, ◌+◌, ◌^◌, ◌≤◌, [], 
 ghost use Rattle.report.specs.Words.{words_of, sort, body, first, second, signed28};
 ghost use Rattle.report.specs.Entries.{opening, entry_of, word_of, bare_of, link_of, walk_of, item_of, found_of, width, taken, file_number, file_place, kind_of, headed_by};
 
+use book::Link;
+
 // A file of more bytes is refused whole.
 const MAX_FILE: usize = 65536;
 
@@ -48,7 +50,7 @@ pub enum FileKind {
 #[derive(Clone, Copy)]
 pub enum Entry<'f> {
     Size(u32),
-    Link(u32, u32, i32, i32),
+    Link(Link<i32>),
     Strike(u32, u32),
     Offset(u32, u32),
     Offsets,
@@ -186,8 +188,13 @@ fn link_entry(place: u32, w: u32, bytes: &[u8]) -> Result<Option<Entry<'_>>, Fil
     let (v, _) = first_word(rest)
         .filter(|(v, _)| sort(*v) == WANTED)
         .ok_or(FileFault::Stray(place + 2))?;
-    let (i, j) = switches(w);
-    Ok(Some(Entry::Link(i, j, latency_number(m), latency_number(v))))
+    let (from, to) = switches(w);
+    Ok(Some(Entry::Link(Link {
+        from,
+        to,
+        measured: latency_number(m),
+        wanted: latency_number(v),
+    })))
 }
 
 #[tactic(auto, using(crate::proofs::Front::words_count, crate::proofs::Front::words_take))]
@@ -270,7 +277,7 @@ fn width_of(e: Entry<'_>) -> usize
     ensures { (result ≡ width (item_of e.entry)) × (result ≤ 2 ^ 63) }
 {
     match e {
-        Entry::Link(_, _, _, _) => 3,
+        Entry::Link(_) => 3,
         Entry::Walk(bytes) => 1 + bytes.len() / 4,
         _ => 1,
     }

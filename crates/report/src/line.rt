@@ -36,9 +36,9 @@ impl RowWriter<'_> {
                 self.text(b"SIZE ");
                 self.number(n);
             }
-            Entry::Link(i, j, _, _) => {
+            Entry::Link(l) => {
                 self.text(b"LINK ");
-                self.pair(i, j);
+                self.pair(l.from, l.to);
             }
             Entry::Strike(i, j) => {
                 self.text(b"STRIKE ");
