@@ -23,7 +23,7 @@ pub data Item : Type 0 where
 -- as the code has it
 abbrev pub item_of : Entry → Item
 item_of (Size n) = size n
-item_of (Link i j m w) = link i j m w
+item_of (Link l) = link l.from l.to l.measured l.wanted
 item_of (Strike i j) = strike i j
 item_of (Offset i j) = offset i j
 item_of Offsets = all_offsets

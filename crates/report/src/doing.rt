@@ -18,22 +18,20 @@ fn latencies<K: Kind>(m: i32, w: i32) -> Result<(K::Latency, K::Latency), Latenc
     Ok((measured, wanted))
 }
 
+// Rows are passed one by one, as the book takes them: each clause is about one row of the caller's.
 fn do_link<K: Kind>(
     book: &mut Book<K>,
-    from: u32,
-    to: u32,
-    m: i32,
-    w: i32,
+    asked: Link<i32>,
     totals: &mut [K::Total],
     numbers: &mut [u32],
     steps: &mut [u32],
 ) -> Result<Good<K::Total>, CallFault>
-    ensures { Did K.Kind.meaning (state_of K.Kind.meaning book.old.store) (link from to m w) result (state_of K.Kind.meaning book.new.store) (lent_of totals.old numbers.old steps.old) (lent_of totals.new numbers.new steps.new) }
+    ensures { Did K.Kind.meaning (state_of K.Kind.meaning book.old.store) (link asked.from asked.to asked.measured asked.wanted) result (state_of K.Kind.meaning book.new.store) (lent_of totals.old numbers.old steps.old) (lent_of totals.new numbers.new steps.new) }
 {
-    let (measured, wanted) = latencies::<K>(m, w)?;
+    let (measured, wanted) = latencies::<K>(asked.measured, asked.wanted)?;
     let new = Link {
-        from,
-        to,
+        from: asked.from,
+        to: asked.to,
         measured,
         wanted,
     };
@@ -103,7 +101,7 @@ pub(crate) fn perform<K: Kind>(
 {
     match e {
         Entry::Size(n) => book.size(n)?,
-        Entry::Link(i, j, m, w) => return do_link(book, i, j, m, w, totals, numbers, steps),
+        Entry::Link(asked) => return do_link(book, asked, totals, numbers, steps),
         Entry::Strike(i, j) => book.strike(i, j)?,
         Entry::Offset(i, j) => return do_offset(book, i, j, totals, numbers, steps),
         Entry::Offsets => return do_offsets(book, totals, numbers, steps),

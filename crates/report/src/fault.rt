@@ -31,6 +31,7 @@ pub enum Fault {
 #[derive(Clone, Copy, Debug, PartialEq, Eq)]
 pub struct Placed {
     pub fault: Fault,
+    // 0 and no None: it is the number that the report prints.
     pub place: u32,
 }
 
@@ -87,6 +88,7 @@ impl CallFault {
 
 impl Fault {
     /// The number that reports print.
+    // A match, since the variants carry faults of their own.
     pub fn number(self) -> u32
         ensures { result ≡ fault_number self }
     {

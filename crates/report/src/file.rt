@@ -2,6 +2,8 @@ ghost use Rattle.std.specs.Prelude.{◌≡◌, ◌+◌, ◌^◌, ◌≤◌, [], 
 ghost use Rattle.report.specs.Words.{words_of, sort, body, first, second, signed28};
 ghost use Rattle.report.specs.Entries.{opening, entry_of, word_of, bare_of, link_of, walk_of, item_of, found_of, width, taken, file_number, file_place, kind_of, headed_by};
 
+use book::Link;
+
 // A file of more bytes is refused whole.
 const MAX_FILE: usize = 65536;
 
@@ -32,6 +34,11 @@ const ISSUE: u32 = 0xC000_0000;
 
 const RECALL: u32 = 0xD000_0000;
 
+// The heads: the first word of a file of each kind.
+const TICKS_HEAD: u32 = 0x1000_0000;
+
+const PLACES_HEAD: u32 = 0x1100_0000;
+
 /// The kind of latency that a head names.
 #[derive(Clone, Copy, Debug, PartialEq, Eq)]
 pub enum FileKind {
@@ -43,7 +50,7 @@ pub enum FileKind {
 #[derive(Clone, Copy)]
 pub enum Entry<'f> {
     Size(u32),
-    Link(u32, u32, i32, i32),
+    Link(Link<i32>),
     Strike(u32, u32),
     Offset(u32, u32),
     Offsets,
@@ -77,6 +84,7 @@ impl FileFault {
     }
 
     // The word at fault, from 1, or 0 for the file as a whole.
+    // 0 and no None: it is the number that the report prints.
     pub(crate) fn place(self) -> u32
         ensures { result ≡ file_place self }
     {
@@ -108,8 +116,8 @@ impl TryFrom<u32> for FileKind {
 
     fn try_from(w: u32) -> Result<FileKind, FileFault> {
         match w {
-            0x1000_0000 => Ok(FileKind::Ticks),
-            0x1100_0000 => Ok(FileKind::CyclePlaces),
+            TICKS_HEAD => Ok(FileKind::Ticks),
+            PLACES_HEAD => Ok(FileKind::CyclePlaces),
             _ => Err(FileFault::NoHead),
         }
     }
@@ -124,6 +132,7 @@ pub(crate) fn first_word(bytes: &[u8]) -> Option<(u32, &[u8])>
 }
 
 // Puts the words of the bytes into the row, and says how many.
+// By index: of what is written through an adapter of `iter_mut` a proof knows nothing.
 pub(crate) fn fill(row: &mut [u32], bytes: &[u8]) -> usize
     requires { length (words_of bytes.now) ≤ length row.old }
     ensures bound { result ≤ length row.new }
@@ -156,6 +165,7 @@ fn switches(w: u32) -> (u32, u32)
 }
 
 // A latency's number, in 28-bit two's complement.
+// By hand: no integer type has 28 bits.
 fn latency_number(w: u32) -> i32
     ensures { result ≡ signed28 w }
 {
@@ -167,6 +177,7 @@ fn latency_number(w: u32) -> i32
     }
 }
 
+// The number of a word, as a clause: a type for it would be taken apart at every sum.
 fn link_entry(place: u32, w: u32, bytes: &[u8]) -> Result<Option<Entry<'_>>, FileFault>
     requires { place ≤ 65536 }
     ensures { found_of result ≡ link_of place w (words_of bytes.now) }
@@ -177,8 +188,13 @@ fn link_entry(place: u32, w: u32, bytes: &[u8]) -> Result<Option<Entry<'_>>, Fil
     let (v, _) = first_word(rest)
         .filter(|(v, _)| sort(*v) == WANTED)
         .ok_or(FileFault::Stray(place + 2))?;
-    let (i, j) = switches(w);
-    Ok(Some(Entry::Link(i, j, latency_number(m), latency_number(v))))
+    let (from, to) = switches(w);
+    Ok(Some(Entry::Link(Link {
+        from,
+        to,
+        measured: latency_number(m),
+        wanted: latency_number(v),
+    })))
 }
 
 #[tactic(auto, using(crate::proofs::Front::words_count, crate::proofs::Front::words_take))]
@@ -261,7 +277,7 @@ fn width_of(e: Entry<'_>) -> usize
     ensures { (result ≡ width (item_of e.entry)) × (result ≤ 2 ^ 63) }
 {
     match e {
-        Entry::Link(_, _, _, _) => 3,
+        Entry::Link(_) => 3,
         Entry::Walk(bytes) => 1 + bytes.len() / 4,
         _ => 1,
     }
@@ -272,6 +288,7 @@ pub(crate) fn words_taken(read: u32, e: Entry<'_>) -> usize
     ensures { result ≡ taken read (item_of e.entry) }
 {
     let own = width_of(e);
+    // No word is read before the head: 0 is a count here, and no code.
     if read == 0 { 1 + own } else { own }
 }
 

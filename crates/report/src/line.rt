@@ -30,14 +30,15 @@ impl RowWriter<'_> {
         ensures bound { self.new.len ≤ self.old.len + 64 }
         ensures wrote { Appended self.old (asked (item_of e.entry)) self.new }
     {
+        // The calls are fixed, so a match, which leaves none out.
         match e {
             Entry::Size(n) => {
                 self.text(b"SIZE ");
                 self.number(n);
             }
-            Entry::Link(i, j, _, _) => {
+            Entry::Link(l) => {
                 self.text(b"LINK ");
-                self.pair(i, j);
+                self.pair(l.from, l.to);
             }
             Entry::Strike(i, j) => {
                 self.text(b"STRIKE ");

@@ -31,6 +31,7 @@ impl<'f> Reader<'f> {
         if self.at.ended {
             return Ok(None);
         }
+        // No word is read before the head: 0 is a count here, and no code.
         if self.at.read == 0 {
             return opened(self.at.kind, self.at.rest);
         }
@@ -42,6 +43,7 @@ impl<'f> Reader<'f> {
         ensures value { result ≡ first_word (reading_of self.now.at) }
         ensures small { result ≤ 65536 }
     {
+        // No word is read before the head: 0 is a count here, and no code.
         if self.at.read == 0 {
             2
         } else {

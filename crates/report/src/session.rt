@@ -59,12 +59,14 @@ impl<'f, 'b, 'a, K: Kind> Session<'f, 'b, 'a, K> {
         }
     }
 
+    // Forwarded here, since the borrow checker does not cover a call on the field where these are used.
     fn peek(&self) -> Result<Option<Entry<'f>>, FileFault>
         ensures { found_of result ≡ ahead (reading_of self.now.reader.at) }
     {
         self.reader.peek()
     }
 
+    // Forwarded here, since the borrow checker does not cover a call on the field where these are used.
     fn first_word(&self) -> u32
         ensures value { result ≡ first_word (reading_of self.now.reader.at) }
         ensures small { result ≤ 65536 }
@@ -73,6 +75,7 @@ impl<'f, 'b, 'a, K: Kind> Session<'f, 'b, 'a, K> {
     }
 
     // Does the call that is next, and writes its line.
+    // The room is a clause and no type: a struct of the row would have to say that it holds the caller's row still.
     fn act(
         &mut self,
         e: Entry<'_>,

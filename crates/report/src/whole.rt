@@ -128,6 +128,8 @@ pub fn run_file(
     ensures ticks { kind_of (words_of file.now) ≡ OfTicks → Reported tick_meaning OfTicks (min (length tick_links.old) 8192) (rows_of tick_totals.old numbers.old steps.old) file.now report.old report.new result }
     ensures places { kind_of (words_of file.now) ≡ OfPlaces → Reported place_meaning OfPlaces (min (length place_links.old) 8192) (rows_of place_totals.old numbers.old steps.old) file.now report.old report.new result }
 {
+    // The kinds are fixed, so a match, which leaves none out.
+    // Each arm passes the rows of its kind to the one generic function.
     match FileKind::of(file) {
         FileKind::Ticks => run::<Ticks>(
             FileKind::Ticks,
