@@ -7,18 +7,6 @@ use crate::book::Book;
 use calls::Refusal;
 use kind::Kind;
 
-// Whether the book knows both switches.
-pub(crate) fn check_inside(n: u32, i: u32, j: u32) -> Result<(), Refusal>
-    ensures { MatchResult result (λ _. Inside n (i ∷ j ∷ [])) (λ e. (e ≡ UnknownSwitch) × (Inside n (i ∷ j ∷ []) → ⊥)) }
-{
-    let known = 1..=n;
-    if known.contains(&i) && known.contains(&j) {
-        Ok(())
-    } else {
-        Err(Refusal::UnknownSwitch)
-    }
-}
-
 impl<'a, K: Kind> Book<'a, K> {
     // An issued book takes no change.
     pub(crate) fn check_not_issued(&self) -> Result<(), Refusal>
@@ -28,6 +16,18 @@ impl<'a, K: Kind> Book<'a, K> {
             Err(Refusal::Issued)
         } else {
             Ok(())
+        }
+    }
+
+    // Whether the book knows both switches.
+    pub(crate) fn check_inside(&self, i: u32, j: u32) -> Result<(), Refusal>
+        ensures { MatchResult result (λ _. Inside self.now.store.n (i ∷ j ∷ [])) (λ e. (e ≡ UnknownSwitch) × (Inside self.now.store.n (i ∷ j ∷ []) → ⊥)) }
+    {
+        let known = 1..=self.store.n;
+        if known.contains(&i) && known.contains(&j) {
+            Ok(())
+        } else {
+            Err(Refusal::UnknownSwitch)
         }
     }
 

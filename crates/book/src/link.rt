@@ -9,7 +9,6 @@ ghost use Rattle.book.specs.Memory.{state_of, capacity_of, records, rows_of, sho
 ghost use Rattle.book.specs.Search.{Joins, Nowhere};
 
 use crate::book::Book;
-use crate::check::check_inside;
 use crate::store::Refused;
 use calls::Refusal;
 use kind::Kind;
@@ -29,7 +28,7 @@ impl<'a, K: Kind> Book<'a, K> {
         ensures { MatchResult result (λ _. Ready K.Kind.meaning (state_of K.Kind.meaning self.now.store) (link_of K.Kind.meaning new) (rows_of totals.now numbers.now steps.now) × Nowhere (Joins new.from new.to) (records self.now.store)) (λ e. First (checks K.Kind.meaning (state_of K.Kind.meaning self.now.store) (LINK (link_of K.Kind.meaning new) (rows_of totals.now numbers.now steps.now))) e []) }
     {
         self.check_not_issued()?;
-        check_inside(self.store.n, new.from, new.to)?;
+        self.check_inside(new.from, new.to)?;
         if new.from == new.to {
             return Err(Refusal::SameSwitch);
         }

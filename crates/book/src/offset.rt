@@ -5,7 +5,6 @@ ghost use Rattle.calls.specs.Verdicts.{OffsetVerdict};
 ghost use Rattle.book.specs.Memory.{state_of, rows_of, single, Answered, RowsUsed};
 
 use crate::book::Book;
-use crate::check::check_inside;
 use calls::Refusal;
 use kind::Kind;
 use search::{Unknown, offset_between};
@@ -24,7 +23,7 @@ impl<'a, K: Kind> Book<'a, K> {
         ensures reach { IfOk result (λ t. K.Kind.meaning.within (2 * (self.now.store.n - 1)) t) }
         ensures rows { RowsUsed self.now.store.n result totals.old totals.new numbers.old numbers.new }
     {
-        check_inside(self.store.n, i, j)?;
+        self.check_inside(i, j)?;
         self.check_rows(totals, numbers, steps)?;
         match offset_between::<K>(&self.network(), i, j, totals, numbers) {
             Ok(t) => Ok(t),
