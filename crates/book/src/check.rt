@@ -1,4 +1,4 @@
-ghost use Rattle.std.specs.Prelude.{◌≡◌, ◌≤◌, true, false, [], ◌∷◌, MatchResult};
+ghost use Rattle.std.specs.Prelude.{◌≡◌, true, false, [], ◌∷◌, MatchResult};
 ghost use Rattle.book.specs.Memory.{rows_of};
 ghost use Rattle.calls.specs.State.{Inside, Enough};
 ghost use Rattle.calls.specs.declared.Refusal.TheVariants.{Issued, UnknownSwitch, ShortRow};

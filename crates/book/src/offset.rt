@@ -10,7 +10,7 @@ use kind::Kind;
 use search::{Unknown, offset_between};
 
 impl<'a, K: Kind> Book<'a, K> {
-    // The call itself. `offset` adds what its answer tells, once for all ways out: in one function each would tell it again.
+    // The call itself. `offset` proves its verdict from `call` once; in one function each way out would have to.
     fn difference(
         &self,
         i: u32,
@@ -25,6 +25,7 @@ impl<'a, K: Kind> Book<'a, K> {
     {
         self.check_inside(i, j)?;
         self.check_rows(totals, numbers, steps)?;
+        // A match: of a closure under `map_err` the check tells too little for the verdict.
         match offset_between::<K>(&self.network(), i, j, totals, numbers) {
             Ok(t) => Ok(t),
             Err(Unknown::Torn) => Err(Refusal::Torn),

@@ -49,14 +49,14 @@ impl From<Unrealisable> for Refused {
 // A book has room for at most so many links.
 const MAX_LINKS: usize = 8192;
 
-// A Book's record, apart from it, since its ghost fields cite definitions that name this one. The row is lent, with no
-// memory of the book's own: the first `count` records stand; the ones behind them are the caller's still.
+// Apart from Book, whose ghost fields cite definitions that name this struct. The row is lent, with no memory of the
+// book's own: the first `count` records stand; the ones behind them are the caller's still.
 #[derive(Drop)]
 pub struct Store<'a, L> {
     pub links: &'a mut [Link<L>],
     pub count: usize,
     pub n: u32,
-    // turned on and off by calls of a file, so a value and no type of its own
+    // ISSUE and RECALL set and clear it while a file runs, so a value and no type
     pub issued: bool,
 }
 
