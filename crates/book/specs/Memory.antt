@@ -89,8 +89,8 @@ abbrev pub Early : {X : Type 0} → Result X Refused → Type 0
 Early (Ok _) = ⊥
 Early (Err e) = (e.refusal ≢ Contradicts) × (e.refusal ≢ NegativeLoop)
 
--- What a call with three rows leaves in them: all of it before it passes the check on the rows; after it all but the first 2 × n totals,
--- the first 4 × n numbers and the shown step words, of which there are at most n.
+-- What a call with three rows leaves in them: all of it before it passes the check on the rows; after it all but the
+-- first 2 × n totals, the first 4 × n numbers and the shown step words, of which there are at most n.
 pub record RowsLeft {X T : Type 0} (n : ℕ) (r : Result X Refused) (ts ts' : List T) (ns ns' ss ss' : List ℕ) : Type 0 where
   pub early : Early r → (ts' ≡ ts) × (ns' ≡ ns) × (ss' ≡ ss)
   pub totals : drop (2 * n) ts' ≡ drop (2 * n) ts

@@ -1,4 +1,4 @@
-ghost use Rattle.std.specs.Prelude.{◌≡◌, ◌≤◌, true, false, [], ◌∷◌, MatchResult};
+ghost use Rattle.std.specs.Prelude.{◌≡◌, true, false, [], ◌∷◌, MatchResult};
 ghost use Rattle.book.specs.Memory.{rows_of};
 ghost use Rattle.calls.specs.State.{Inside, Enough};
 ghost use Rattle.calls.specs.declared.Refusal.TheVariants.{Issued, UnknownSwitch, ShortRow};
@@ -6,18 +6,6 @@ ghost use Rattle.calls.specs.declared.Refusal.TheVariants.{Issued, UnknownSwitch
 use crate::book::Book;
 use calls::Refusal;
 use kind::Kind;
-
-// Whether the book knows both switches.
-pub(crate) fn check_inside(n: u32, i: u32, j: u32) -> Result<(), Refusal>
-    ensures { MatchResult result (λ _. Inside n (i ∷ j ∷ [])) (λ e. (e ≡ UnknownSwitch) × (Inside n (i ∷ j ∷ []) → ⊥)) }
-{
-    let known = 1..=n;
-    if known.contains(&i) && known.contains(&j) {
-        Ok(())
-    } else {
-        Err(Refusal::UnknownSwitch)
-    }
-}
 
 impl<'a, K: Kind> Book<'a, K> {
     // An issued book takes no change.
@@ -28,6 +16,18 @@ impl<'a, K: Kind> Book<'a, K> {
             Err(Refusal::Issued)
         } else {
             Ok(())
+        }
+    }
+
+    // Whether the book knows both switches.
+    pub(crate) fn check_inside(&self, i: u32, j: u32) -> Result<(), Refusal>
+        ensures { MatchResult result (λ _. Inside self.now.store.n (i ∷ j ∷ [])) (λ e. (e ≡ UnknownSwitch) × (Inside self.now.store.n (i ∷ j ∷ []) → ⊥)) }
+    {
+        let known = 1..=self.store.n;
+        if known.contains(&i) && known.contains(&j) {
+            Ok(())
+        } else {
+            Err(Refusal::UnknownSwitch)
         }
     }
 

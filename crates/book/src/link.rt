@@ -1,15 +1,13 @@
-ghost use Rattle.std.specs.Prelude.{◌≡◌, ◌*◌, ◌<◌, ◌≤◌, [], ◌∷◌, ◌++◌, length, take, drop, IfSome, MatchResult, slice_set};
+ghost use Rattle.std.specs.Prelude.{◌≡◌, ◌<◌, [], ◌∷◌, ◌++◌, take, MatchResult, slice_set};
 ghost use Rattle.calls.specs.State.{LINK, First};
 ghost use Rattle.calls.specs.Calls.{checks, holding};
 ghost use Rattle.calls.specs.Verdicts.{Ready, LinkVerdict, ReadsBack};
 ghost use Rattle.network.specs.Offsets.{Fits};
-ghost use Rattle.search.specs.Records.{link_of, On};
-ghost use Rattle.search.specs.Verdict.{Judged};
+ghost use Rattle.search.specs.Records.{link_of};
 ghost use Rattle.book.specs.Memory.{state_of, capacity_of, records, rows_of, shown_answer, shown, Answered, Kept, Good, RowsLeft, Entered};
 ghost use Rattle.book.specs.Search.{Joins, Nowhere};
 
 use crate::book::Book;
-use crate::check::check_inside;
 use crate::store::Refused;
 use calls::Refusal;
 use kind::Kind;
@@ -29,7 +27,7 @@ impl<'a, K: Kind> Book<'a, K> {
         ensures { MatchResult result (λ _. Ready K.Kind.meaning (state_of K.Kind.meaning self.now.store) (link_of K.Kind.meaning new) (rows_of totals.now numbers.now steps.now) × Nowhere (Joins new.from new.to) (records self.now.store)) (λ e. First (checks K.Kind.meaning (state_of K.Kind.meaning self.now.store) (LINK (link_of K.Kind.meaning new) (rows_of totals.now numbers.now steps.now))) e []) }
     {
         self.check_not_issued()?;
-        check_inside(self.store.n, new.from, new.to)?;
+        self.check_inside(new.from, new.to)?;
         if new.from == new.to {
             return Err(Refusal::SameSwitch);
         }
@@ -54,7 +52,7 @@ impl<'a, K: Kind> Book<'a, K> {
         self.store.put(link);
     }
 
-    // The call itself. `link` adds what its answer tells, once for all ways out: in one function each would tell it again.
+    // The call itself. `link` proves its verdict from `call` once; in one function each way out would have to.
     fn enter(
         &mut self,
         new: Link<K::Latency>,

@@ -5,13 +5,12 @@ ghost use Rattle.calls.specs.Verdicts.{OffsetVerdict};
 ghost use Rattle.book.specs.Memory.{state_of, rows_of, single, Answered, RowsUsed};
 
 use crate::book::Book;
-use crate::check::check_inside;
 use calls::Refusal;
 use kind::Kind;
 use search::{Unknown, offset_between};
 
 impl<'a, K: Kind> Book<'a, K> {
-    // The call itself. `offset` adds what its answer tells, once for all ways out: in one function each would tell it again.
+    // The call itself. `offset` proves its verdict from `call` once; in one function each way out would have to.
     fn difference(
         &self,
         i: u32,
@@ -24,8 +23,9 @@ impl<'a, K: Kind> Book<'a, K> {
         ensures reach { IfOk result (λ t. K.Kind.meaning.within (2 * (self.now.store.n - 1)) t) }
         ensures rows { RowsUsed self.now.store.n result totals.old totals.new numbers.old numbers.new }
     {
-        check_inside(self.store.n, i, j)?;
+        self.check_inside(i, j)?;
         self.check_rows(totals, numbers, steps)?;
+        // A match: of a closure under `map_err` the check tells too little for the verdict.
         match offset_between::<K>(&self.network(), i, j, totals, numbers) {
             Ok(t) => Ok(t),
             Err(Unknown::Torn) => Err(Refusal::Torn),

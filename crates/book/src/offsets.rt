@@ -8,8 +8,8 @@ use kind::Kind;
 use search::{Torn, grounded_offsets};
 
 impl<'a, K: Kind> Book<'a, K> {
-    /// OFFSETS: offsets that carry all standing links, zero at the lowest switch of each connected group, in the first n
-    /// totals.
+    /// OFFSETS: offsets that carry all standing links, zero at the lowest switch of each connected group, in the first
+    /// n totals.
     pub fn offsets(
         &self,
         totals: &mut [K::Total],
@@ -21,6 +21,7 @@ impl<'a, K: Kind> Book<'a, K> {
         ensures rows { RowsUsed self.now.store.n result totals.old totals.new numbers.old numbers.new }
     {
         self.check_rows(totals, numbers, steps)?;
+        // A match: of a closure under `map_err` the check tells too little for the verdict.
         match grounded_offsets::<K>(&self.network(), totals, numbers) {
             Ok(()) => Ok(()),
             Err(Torn) => Err(Refusal::Torn),

@@ -10,7 +10,7 @@ use kind::Kind;
 use schedule::least_offsets;
 
 impl<'a, K: Kind> Book<'a, K> {
-    // The call itself. `realise` adds what its answer tells, once for all ways out: in one function each would tell it again.
+    // The call itself. `realise` proves its verdict from `call` once; in one function each way out would have to.
     fn schedule(
         &self,
         totals: &mut [K::Total],

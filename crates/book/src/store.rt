@@ -1,7 +1,6 @@
 ghost use Rattle.std.specs.Prelude.{◌≡◌, ◌+◌, ◌-◌, ◌<◌, ◌≤◌, ◌++◌, length, drop, slice_index_or, slice_set, MatchBool};
 ghost use Rattle.std.specs.List.{remove};
 ghost use Rattle.calls.specs.declared.Refusal.TheVariants.{Contradicts, NegativeLoop};
-ghost use Rattle.book.specs.Memory.{records, capacity_of};
 ghost use Rattle.book.specs.Search.{Past, Joins, Seen, Located};
 
 use calls::Refusal;
@@ -49,20 +48,22 @@ impl From<Unrealisable> for Refused {
 // A book has room for at most so many links.
 const MAX_LINKS: usize = 8192;
 
-// A Book's record, apart from it, since its ghost fields cite definitions that name this one. The row is lent, with no
-// memory of the book's own: the first `count` records stand; the ones behind them are the caller's still.
+// Apart from Book, whose ghost fields cite definitions that name this struct. The row is lent, with no memory of the
+// book's own: the first `count` records stand; the ones behind them are the caller's still.
 #[derive(Drop)]
 pub struct Store<'a, L> {
     pub links: &'a mut [Link<L>],
     pub count: usize,
     pub n: u32,
-    // turned on and off by calls of a file, so a value and no type of its own
+    // ISSUE and RECALL set and clear it while a file runs, so a value and no type
     pub issued: bool,
+    ghost held: { count ≤ length links.now },
 }
 
 impl<'a, L: Copy> Store<'a, L> {
+    ghost use Rattle.book.specs.Memory.{records, capacity_of};
+
     pub(crate) fn reaches_past(&self, n: u32) -> bool
-        requires { self.now.count ≤ length self.now.links.now }
         ensures { Seen (Past n) (records self.now) result }
     {
         self.links[..self.count]
@@ -77,7 +78,6 @@ impl<'a, L: Copy> Store<'a, L> {
     }
 
     pub(crate) fn get(&self, at: usize) -> Link<L>
-        requires room { self.now.count ≤ length self.now.links.now }
         requires stands { at < self.now.count }
         ensures { (d : Link L) → result ≡ slice_index_or (records self.now) at d }
     {
@@ -85,7 +85,6 @@ impl<'a, L: Copy> Store<'a, L> {
     }
 
     pub(crate) fn find(&self, from: u32, to: u32) -> Option<usize>
-        requires { self.now.count ≤ length self.now.links.now }
         ensures { Located (Joins from to) (records self.now) result }
     {
         self.links[..self.count]
@@ -95,7 +94,6 @@ impl<'a, L: Copy> Store<'a, L> {
 
     // The records after the one at `at` move up by one place.
     pub(crate) fn remove(&mut self, at: usize)
-        requires room { self.old.count ≤ length self.old.links.now }
         requires stands { at < self.old.count }
         ensures links { self.new.links.now ≡ remove (records self.old) at ++ drop (self.old.count - 1) self.old.links.now }
         ensures count { self.new.count ≡ self.old.count - 1 }

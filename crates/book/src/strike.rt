@@ -3,7 +3,6 @@ ghost use Rattle.calls.specs.State.{STRIKE};
 ghost use Rattle.book.specs.Memory.{plain, Answered, Kept};
 
 use crate::book::Book;
-use crate::check::check_inside;
 use calls::Refusal;
 use kind::Kind;
 
@@ -15,7 +14,7 @@ impl<'a, K: Kind> Book<'a, K> {
         ensures records { drop self.old.store.count self.new.store.links.now ≡ drop self.old.store.count self.old.store.links.now }
     {
         self.check_not_issued()?;
-        check_inside(self.store.n, from, to)?;
+        self.check_inside(from, to)?;
         let at = self.store.find(from, to).ok_or(Refusal::NotStanding)?;
         self.store.remove(at);
         Ok(())

@@ -1,5 +1,4 @@
-ghost use Rattle.std.specs.Prelude.{◌≡◌, ◌≤◌};
-ghost use Rattle.network.specs.Graph.{place};
+ghost use Rattle.std.specs.Prelude.{◌≤◌};
 ghost use Rattle.book.specs.Walking.{Named, LegOf};
 
 use kind::Kind;
@@ -9,6 +8,7 @@ use search::Link;
 // Where a walk is, and what it comes to so far.
 #[derive(Clone, Copy, Debug, PartialEq, Eq)]
 pub struct Trip<T> {
+    // 0, no switch, before the first step: the test on `done` comes first.
     pub at: u32,
     pub measured: T,
     pub wanted: T,

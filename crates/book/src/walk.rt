@@ -44,6 +44,7 @@ impl<'a, K: Kind> Book<'a, K> {
             return Err(Refusal::WalkTooLong);
         }
         let mut trip = Trip {
+            // 0, no switch, before the first step: the test on `done` comes first.
             at: 0,
             measured: K::zero(),
             wanted: K::zero(),
