@@ -18,6 +18,7 @@ mod tests {
         let mut tick_links = [Link::blank(tick); 1];
         let mut place_links = [Link::blank(place); 1];
         let mut report = [0u8; 64];
+        // With rows of its own sizes, as every user of the call lends them.
         let Ok(bytes) = run_file(
             file,
             &mut tick_links,

@@ -2,7 +2,7 @@ ghost use Rattle.std.specs.Prelude.{◌≡◌, ◌*◌, ◌≤◌, length};
 
 // What the rounds work in, a place for each switch in every row: the round that last raised it (0: none did), the
 // position of the link that it was raised for, and a mark. The rows are lent, since the library has no memory of its own;
-// the Network, which is only read, stands beside them.
+// the Network, which is only read, stands beside them. Other rows than a search's, and other meanings: no struct of both.
 #[derive(Drop)]
 pub(crate) struct Rows<'r> {
     pub stamps: &'r mut [u32],

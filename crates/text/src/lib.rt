@@ -38,8 +38,8 @@ impl Text {
     pub fn of_word(w: u32) -> Text
         ensures { bytes_of result ≡ hex 8 w }
     {
-        // Digit by digit, since the library's formatting writes through a writer, which may fail; and by index, since of what
-        // is written through an adapter of `iter_mut` a proof knows nothing.
+        // Digit by digit, since the library's formatting writes through a writer, which may fail; and by index, since of
+        // what is written through an adapter of `iter_mut` a proof knows nothing.
         let mut digits = [0u8; 8];
         // what is left of the word: its lowest digit belongs at place i
         let mut left = w;
