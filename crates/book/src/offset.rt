@@ -25,7 +25,7 @@ impl<'a, K: Kind> Book<'a, K> {
     {
         self.check_inside(i, j)?;
         self.check_rows(totals, numbers, steps)?;
-        // A match: of a closure under `map_err` the check tells too little for the verdict.
+        // No `map_err`: its closure would be this match.
         match offset_between::<K>(&self.network(), i, j, totals, numbers) {
             Ok(t) => Ok(t),
             Err(Unknown::Torn) => Err(Refusal::Torn),

@@ -21,7 +21,7 @@ impl<'a, K: Kind> Book<'a, K> {
         ensures rows { RowsUsed self.now.store.n result totals.old totals.new numbers.old numbers.new }
     {
         self.check_rows(totals, numbers, steps)?;
-        // A match: of a closure under `map_err` the check tells too little for the verdict.
+        // No `map_err`: its closure would drop the name of the error, which this match turns into a refusal.
         match grounded_offsets::<K>(&self.network(), totals, numbers) {
             Ok(()) => Ok(()),
             Err(Torn) => Err(Refusal::Torn),
