@@ -1,24 +1,23 @@
 -- One record taken out, or one put at the end: what stands then, and that the invariants stay.
-use Rattle.std.proofs.Common.{◌≡◌, ℕ, suc, ◌+◌, ◌-◌, ◌<◌, ◌≤◌, min, Bool, List, [], ◌∷◌, ◌++◌, map, length, take, drop, set, sym, ap, ◌∙◌, subst, ⊎_elim, zero-le, arith}
+use Rattle.std.proofs.Common.{◌≡◌, ℕ, suc, ◌+◌, ◌-◌, ◌<◌, ◌≤◌, min, Bool, List, [], ◌∷◌, ◌++◌, map, length, take, drop, set, sym, ap, ◌∙◌, subst, ⊎_elim, zero-le, arith, length-set}
 use mathlib.Core.List.{map-append}
 use Rattle.std.specs.List.{remove}
-use Rattle.std.proofs.lemmas.List.{length-map, take-map, drop-map, take_at, length-append, length-drop, length-take-le, take_more_set, length_push, get_or_push, get_or_append_left}
+use Rattle.std.proofs.lemmas.List.{length-map, take-map, drop-map, take_at, drop_at, drop-drop, length-append, length-drop, length-take-le, take_more_set, length_push, get_or_push, get_or_append_left, map_push}
 use Rattle.std.proofs.lemmas.List.Edits.{length-remove}
 use Rattle.std.proofs.lemmas.List.Elements.{AllWithin-push}
 use Rattle.std.proofs.lemmas.Bool.{cases_lt}
 use Rattle.calls.proofs.Removed.{from_removed}
 use Rattle.kind.specs.Meaning.{Meaning}
-use Rattle.network.specs.Offsets.{Link as Standard}
+use Rattle.network.specs.Offsets.{Link as Standard, Fits}
+use Rattle.network.proofs.Lists.{theory}
 use Rattle.search.specs.declared.link.Link.{Link}
 use Rattle.book.specs.declared.store.Store.{Store}
 use Rattle.search.specs.Records.{link_of}
 use Rattle.book.specs.Memory.{state_of, records, capacity_of, Good, Sound, Single, Held}
 use Rattle.calls.specs.State.{State, STRIKE, done}
+use Rattle.calls.specs.Standing.{Stands}
 use Rattle.calls.specs.Calls.{Next, by_strike, holding}
 use Rattle.book.specs.Search.{Here, Nowhere, Joins}
-use Rattle.book.proofs.Places.{stands}
-use Rattle.network.specs.Offsets.{Fits}
-use Rattle.network.proofs.Lists.{theory}
 use Rattle.std.proofs.Math.Logic.{∥∥₁_map}
 
 module _ {L : Type 0} where
@@ -64,54 +63,79 @@ state_is M t u a b c d = same a b c d where
       → ◌≡◌ {A = State Q} (record { links = x; n = m; issued = p; capacity = k }) (record { links = y; n = n; issued = q; capacity = l })
   same a b c d = cc
 
-module _ {L T : Type 0} (M : Meaning L T) (s t : Store L) (i j at : ℕ) (found : Here (Joins i j) (records s) at) (held : Held s)
+-- a standing record's place
+pub low : {L : Type 0} (s : Store L) (P : ℕ → ℕ → Type 0) (at : ℕ) → Held s → Here P (records s) at → at < s.count
+low s P at held h = let l = length-take-le s.count s.links.now held.0 in omega (arith, h.0)
+
+module _ {L T : Type 0} (M : Meaning L T) (s t : Store L) (at : ℕ)
+    (room : s.count ≤ length s.links.now) (stood : at < s.count)
     (links : t.links.now ≡ remove (records s) at ++ drop (s.count - 1) s.links.now) (count : t.count ≡ s.count - 1) (n : t.n ≡ s.n) (issued : t.issued ≡ s.issued) where
-  low : at < s.count
-  low = let l = length-take-le s.count s.links.now held.0 in omega (arith, found.0)
+  here : at < length (records s)
+  here = let l = length-take-le s.count s.links.now room in omega arith
 
   front : length (remove (records s) at) ≡ s.count - 1
-  front = let l = length-take-le s.count s.links.now held.0 in let r = length-remove (records s) at found.0 in omega arith
+  front = let l = length-take-le s.count s.links.now room in let r = length-remove (records s) at here in omega arith
 
-  struck_records : records t ≡ remove (records s) at
+  pub struck_records : records t ≡ remove (records s) at
   struck_records = ap (λ z. take z t.links.now) count ∙ ap (take (s.count - 1)) links ∙ take_at (remove (records s) at) _ (s.count - 1) front
 
-  struck_length : length t.links.now ≡ length s.links.now
+  pub struck_length : length t.links.now ≡ length s.links.now
   struck_length =
       let f = front in
       let a = length-append (remove (records s) at) (drop (s.count - 1) s.links.now) in
       let d = length-drop (s.count - 1) s.links.now in
       let e = ap length links in
-      let l = low in
-      omega (arith, held.0)
+      omega arith
+
+  pub struck_rest : drop s.count t.links.now ≡ drop s.count s.links.now
+  struck_rest =
+      let e : s.count ≡ (s.count - 1) + 1 = omega arith in
+      ap (λ z. drop z t.links.now) e ∙ sym (drop-drop 1 (s.count - 1) t.links.now) ∙ ap (drop 1) (ap (drop (s.count - 1)) links ∙ drop_at (remove (records s) at) _ (s.count - 1) front)
+      ∙ drop-drop 1 (s.count - 1) s.links.now ∙ ap (λ z. drop z s.links.now) (sym e)
+
+  pub struck_held : Held s → Held t
+  struck_held h = let e = struck_length in (omega arith, omega arith, omega arith, omega arith)
 
   pub struck_sound : Sound s.n (records s) → Sound t.n (records t)
-  struck_sound h = simp (struck_records, n) (sound-removed s.n (records s) at found.0 h)
+  struck_sound h = simp (struck_records, n) (sound-removed s.n (records s) at here h)
 
   pub struck_single : Single (records s) → Single (records t)
-  struck_single h = simp (struck_records) (single-removed (records s) at found.0 h)
+  struck_single h = simp (struck_records) (single-removed (records s) at here h)
 
   pub struck_fits : ∥ Fits M.quantities (map (link_of M) (records s)) ∥₁ → ∥ Fits M.quantities (map (link_of M) (records t)) ∥₁
   struck_fits h =
       let less : map (link_of M) (records t) ≡ remove (map (link_of M) (records s)) at = ap (map (link_of M)) struck_records ∙ map-removed (link_of M) (records s) at in
-      ∥∥₁_map h (λ f. subst (Fits M.quantities) (sym less) ((theory M.quantities (map (link_of M) (records s))).remove at (omega (arith, found.0, length-map (records s) (link_of M))) f))
+      ∥∥₁_map h (λ f. subst (Fits M.quantities) (sym less) ((theory M.quantities (map (link_of M) (records s))).remove at (omega (arith, here, length-map (records s) (link_of M))) f))
 
-  pub struck_next : Next M (state_of M s) (STRIKE i j) done (state_of M t)
-  struck_next =
+  pub struck_next : (i j : ℕ) → Stands M.quantities (state_of M s) i j (suc at) → Next M (state_of M s) (STRIKE i j) done (state_of M t)
+  struck_next i j st =
       let P : State M.quantities.Q → Type 0 = λ u. Next M (state_of M s) (STRIKE i j) done u in
-      let h = stands M s (Joins i j) at found in
       let e = state_is M t (holding M (state_of M s) (remove (state_of M s).links at)) (ap (map (link_of M)) struck_records ∙ map-removed (link_of M) (records s) at) n issued (ap (λ z. min z 8192) struck_length) in
-      subst P (sym e) (by_strike i j at (h.0, h.1.0, h.1.1))
+      subst P (sym e) (by_strike i j at st)
 
-module _ {L : Type 0} (s t : Store L) (l : Link L)
-    (room : s.count < capacity_of s) (links : t.links.now ≡ set s.links.now s.count l) (count : t.count ≡ s.count + 1) where
-  added_records : records t ≡ records s ++ l ∷ []
-  added_records = ap (λ z. take z t.links.now) count ∙ ap (take (s.count + 1)) links ∙ take_more_set s.links.now s.count l (grind arith)
+module _ {L T : Type 0} (M : Meaning L T) (s t : Store L) (l : Link L)
+    (room : s.count < capacity_of s)
+    (links : t.links.now ≡ set s.links.now s.count l) (count : t.count ≡ s.count + 1) (n : t.n ≡ s.n) (issued : t.issued ≡ s.issued) where
+  place : s.count < length s.links.now
+  place = grind arith
 
-  pub added_sound : t.n ≡ s.n → Good s.n l → Sound s.n (records s) → Sound t.n (records t)
-  added_sound n good h = simp (added_records, n) (sound-push s.n (records s) l h good)
+  pub added_records : records t ≡ records s ++ l ∷ []
+  added_records = ap (λ z. take z t.links.now) count ∙ ap (take (s.count + 1)) links ∙ take_more_set s.links.now s.count l place
 
-  pub added_fits : {T : Type 0} (M : Meaning L T) → Fits M.quantities (map (link_of M) (records s) ++ link_of M l ∷ []) → Fits M.quantities (map (link_of M) (records t))
-  added_fits M f = subst (Fits M.quantities) (sym (ap (map (link_of M)) added_records ∙ map-append (link_of M) (records s) (l ∷ []))) f
+  pub added_length : length t.links.now ≡ length s.links.now
+  added_length = ap length links ∙ length-set s.links.now s.count l
+
+  pub added_held : Held s → Held t
+  added_held h = let e = added_length in let p = place in let q : s.count < 8192 = grind arith in (omega arith, omega arith, omega arith, omega arith)
+
+  pub added_sound : Good s.n l → Sound s.n (records s) → Sound t.n (records t)
+  added_sound good h = simp (added_records, n) (sound-push s.n (records s) l h good)
+
+  pub added_fits : Fits M.quantities (map (link_of M) (records s) ++ link_of M l ∷ []) → Fits M.quantities (map (link_of M) (records t))
+  added_fits f = subst (Fits M.quantities) (sym (ap (map (link_of M)) added_records ∙ map-append (link_of M) (records s) (l ∷ []))) f
 
   pub added_single : Nowhere (Joins l.from l.to) (records s) → Single (records s) → Single (records t)
   added_single fresh h = simp (added_records) (single-push (records s) l h fresh)
+
+  pub added_state : state_of M t ≡ holding M (state_of M s) ((state_of M s).links ++ link_of M l ∷ [])
+  added_state = state_is M t (holding M (state_of M s) ((state_of M s).links ++ link_of M l ∷ [])) (ap (map (link_of M)) added_records ∙ map_push (link_of M) (records s) l) n issued (ap (λ z. min z 8192) added_length)

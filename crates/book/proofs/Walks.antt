@@ -30,6 +30,12 @@ module _ {L T : Type 0} (M : Meaning L T) where
   pub standing_count : (s : Store L) → s.count ≤ length s.links.now → length (state_of M s).links ≡ s.count
   standing_count s h = length-map (records s) (link_of M) ∙ length-take-le s.count s.links.now h
 
+  pub upto_stands : (s : Store L) → s.count ≤ length s.links.now → (p : ℕ) → Standing M.quantities (state_of M s) p → Upto s.count p
+  upto_stands s h p u =
+      let a = length-map (records s) (link_of M) in
+      let b = length-take-le s.count s.links.now h in
+      (u.0, omega (arith, u.1))
+
   pub few_links : (s : Store L) → Held s → length (state_of M s).links ≤ 8192
   few_links s h = omega (arith, standing_count s h.0, h.1)
 

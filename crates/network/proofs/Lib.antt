@@ -9,3 +9,4 @@ pub mod Turning
 pub mod Growth
 pub mod Count
 pub mod Potential
+pub mod Ground

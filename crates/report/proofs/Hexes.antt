@@ -2,7 +2,7 @@
 use Rattle.std.proofs.Common.{◌≡◌, ℕ, zero, suc, ◌+◌, ◌-◌, ◌/◌, ◌%◌, ◌<◌, ◌≤◌, true, List, [], ◌∷◌, ◌++◌, length, get_or, take, codes, Ok, ◌⊎◌, inl, inr, sym, refl, ap, ◌∙◌, subst, append_assoc, arith, length-append}
 use Rattle.std.specs.Fmt.{digit_glyph}
 use Rattle.std.proofs.lemmas.List.{take_more, length-take-le, get_or-map, get_or-take}
-use Rattle.text.specs.Writing.{hex}
+use Rattle.text.specs.Writing.{hex, Wrote}
 use Rattle.kind.specs.Meaning.{Meaning}
 use Rattle.search.specs.Records.{On}
 use Rattle.search.specs.Settled.{offset}
@@ -44,6 +44,14 @@ module _ {L T : Type 0} (M : Meaning L T) (k : ℕ) (row : List T) (le : k ≤ l
 
   pub holds_carrying : Holds M (offset M (take k row)) (take k row)
   holds_carrying v o t = ((holds_least v o t).0, sym (get_or-map M.total (take k row) (v - 1) t M.quantities.zero (omega (arith, o.0, o.1))))
+
+-- the bytes of the first k totals, whichever offsets they mean
+pub row_listed : {L T : Type 0} (M : Meaning L T) (c : ℕ → M.quantities.Q) (k n : ℕ) (ts : List T) (a b : List ℕ) (at end : ℕ) → k ≤ length ts → k ≡ n → Holds M c (take k ts)
+    → ((d : ℕ → M.quantities.Q) → Holds M d (take (k - 0) ts) → Wrote a at (listed M d (length (take (k - 0) ts))) b end) → Wrote a at (listed M c n) b end
+row_listed M c k n ts a b at end le e h w =
+    let z : k - 0 ≡ k = omega arith in
+    let l : length (take (k - 0) ts) ≡ n = ap (λ m. length (take m ts)) z ∙ length-take-le k ts le ∙ e in
+    subst (λ m. Wrote a at (listed M c m) b end) l (w c (subst (λ m. Holds M c (take m ts)) (sym z) h))
 
 -- the first k totals are listed alike as offsets that carry the links and as the least ones
 pub alike : {L T : Type 0} (M : Meaning L T) (k n : ℕ) (good : Good T) (row : List T) (ss : List ℕ) (Put : List ℕ → Type 0) → (good ≡ Offsets k) ⊎ (good ≡ Schedule k)

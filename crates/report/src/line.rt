@@ -80,6 +80,7 @@ impl RowWriter<'_> {
     }
 
     // A total as its kind prints it; within reach that is the text of the quantity that it means.
+    #[inline(always)]
     fn total<K: Kind>(&mut self, t: &K::Total)
         requires { HasRoom self.old 28 }
         ensures same { SameRow self.old self.new }

@@ -90,24 +90,25 @@ module _ (g : Graph) (k n : ℕ) (z : Wired g k n) (few : k ≤ 8192) (i : ℕ) 
   put_here : Put (parents row) (parents (set row (x - 1) hang)) x (decode hang)
   put_here = put_word row x hang (o.0, omega (arith, o.1))
 
-  pub word_is : (s : Step) → Some s ≡ parents row x → parents row x ≡ Some s
-  word_is s e = sym e
+  -- the word read at x is its step up
+  pub word_is : (s : Step) → Some s ≡ decode (get_or row (x - 1) 0) → parents row x ≡ Some s
+  word_is s e = ups_at row x o.0 ∙ sym e
 
   pub joining_here : (s : Step) → Some s ≡ parents row x → Joining g k (place s)
-  joining_here s e = (v.points x s (word_is s e)).1
+  joining_here s e = (v.points x s (sym e)).1
 
   pub low_turned : (s t : Step) → Some s ≡ parents row x → t ≡ reverse s → place t ≤ 8192
   low_turned s t e q = let j = joining_here s e in let r : place t ≡ place s = ap place q ∙ place-reverse s in omega (arith, j.1)
 
   pub row_again : (s t : Step) (w y : ℕ) → Some s ≡ parents row x → t ≡ reverse s → decode w ≡ Some t → y ≡ end g s → Rerooting g k (parents (set row (x - 1) hang)) i y (decode w) × On n y
   row_again s t w y e q d p =
-      let a = again g k n z i (parents row) (parents (set row (x - 1) hang)) x (decode hang) v put_here o s (word_is s e) in (
+      let a = again g k n z i (parents row) (parents (set row (x - 1) hang)) x (decode hang) v put_here o s (sym e) in (
         subst (λ y. Rerooting g k (parents (set row (x - 1) hang)) i y (decode w)) (sym p) (subst (Rerooting g k (parents (set row (x - 1) hang)) i (end g s)) (sym (d ∙ ap Some q)) a.0),
         subst (On n) (sym p) a.1,
       )
 
   pub row_fewer : (s : Step) (y : ℕ) → Some s ≡ parents row x → y ≡ end g s → length (ups g (parents (set row (x - 1) hang)) n y) < length (ups g (parents row) n x)
-  row_fewer s y e p = subst (λ y. length (ups g (parents (set row (x - 1) hang)) n y) < length (ups g (parents row) n x)) (sym p) (fewer g k n z i (parents row) (parents (set row (x - 1) hang)) x (decode hang) v put_here o s (word_is s e))
+  row_fewer s y e p = subst (λ y. length (ups g (parents (set row (x - 1) hang)) n y) < length (ups g (parents row) n x)) (sym p) (fewer g k n z i (parents row) (parents (set row (x - 1) hang)) x (decode hang) v put_here o s (sym e))
 
   pub row_done : None ≡ parents row x → Forest g k (parents (set row (x - 1) hang)) × (parents (set row (x - 1) hang) i ≡ None)
   row_done e = done g k n z i (parents row) (parents (set row (x - 1) hang)) x (decode hang) v put_here o (sym e)
@@ -116,7 +117,7 @@ module _ (g : Graph) (k n : ℕ) (z : Wired g k n) (few : k ≤ 8192) (i : ℕ) 
   module _ (c : Connected g (Upto k) i x) where
     pub row_near : (s : Step) (y : ℕ) → Some s ≡ parents row x → y ≡ end g s → Connected g (Upto k) i y
     row_near s y e p =
-        let j = v.points x s (word_is s e) in
+        let j = v.points x s (sym e) in
         subst (Connected g (Upto k) i) (sym p) (trans g (Upto k) i x (end g s) c (subst (λ u. Connected g (Upto k) u (end g s)) j.0 (ahead g (Upto k) s (j.1.0, j.1.1))))
 
     pub row_others : (u : ℕ) → (Connected g (Upto k) i u → ⊥) → parents (set row (x - 1) hang) u ≡ parents row u

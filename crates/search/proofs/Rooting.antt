@@ -9,6 +9,10 @@ use Rattle.search.specs.Joined.{label, Labelled}
 use Rattle.search.specs.Rooted.{First, Rooted}
 use Rattle.search.proofs.Settling.{marked, mark_keeps}
 
+-- before the first switch
+pub none_passed : (g : Graph) (k n : ℕ) (labels marks up : List ℕ) → Forest g k (parents up) → ((v : ℕ) → get_or marks v 0 ≡ 0) → Rooted g k n labels marks up 0
+none_passed g k n labels marks up f z = record { forest = f; marked = λ v o h. absurd (omega (arith, o.0)); met = λ v o d. absurd (d (z (label labels v - 1))); roots = λ v o h. absurd (omega (arith, o.0.0)) }
+
 -- the switch after the first m, whose label is a
 module _ (g : Graph) (k n : ℕ) (labels marks up : List ℕ) (m : ℕ) (next : m < n) (R : Rooted g k n labels marks up m) (a : ℕ) (is : a ≡ get_or labels m 0) where
   here : On n (m + 1)

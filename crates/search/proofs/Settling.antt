@@ -3,7 +3,7 @@ use Rattle.std.proofs.Common.{◌≡◌, ℕ, ◌+◌, ◌-◌, ◌*◌, ◌<◌
 use Rattle.std.proofs.lemmas.Bool.{cases_eq}
 use Rattle.kind.specs.Meaning.{Meaning}
 use Rattle.network.specs.declared.Step.{Step}
-use Rattle.network.specs.Graph.{end}
+use Rattle.network.specs.Graph.{place, end}
 use Rattle.network.specs.Climb.{Climb, Forest}
 use Rattle.network.specs.Offsets.{tally}
 use Rattle.network.proofs.Climb.{one_step}
@@ -42,6 +42,9 @@ module _ {L T : Type 0} (M : Meaning L T) (links : List (Record L)) (n : ℕ) (u
       (is : Some s ≡ parents up w) (known : get_or marks (y - 1) 0 ≡ 0 → ⊥) where
     step_is : above.0 ≡ s
     step_is = one_step (parents up w) above.0 s above.1 (sym is)
+
+    pub step_low : (1 ≤ place s) × (place s ≤ k)
+    step_low = let j = (f.points w above.0 above.1).1 in let q = ap place step_is in (omega (arith, j.0, q), omega (arith, j.1, q))
 
     pub handed : (d x : T) → ((i : ℕ) → M.within i (get_or row (y - 1) d) → i + 2 ≤ 16777216 → (M.total x ≡ M.quantities.plus (M.total (get_or row (y - 1) d)) (M.quantities.minus (worth M.quantities (gap M links) s))) × M.within (i + 2) x)
         → Settled M links n up (set marks (w - 1) 1) (set row (w - 1) x)

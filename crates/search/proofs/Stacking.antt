@@ -7,6 +7,10 @@ use Rattle.search.specs.Parents.{parents}
 use Rattle.search.specs.Records.{On}
 use Rattle.search.specs.Chain.{Chain}
 
+pub chain_first : (g : Graph) (n : ℕ) (up stack : List ℕ) (v : ℕ) → On n v → 0 < length stack → Chain g n up (set stack 0 v) 0
+chain_first g n up stack v o l =
+    record { on = λ i h. let q : i ≡ 0 = omega arith in subst (On n) (sym (ap (λ j. get_or (set stack 0 v) j 0) q ∙ get_or-set_same stack 0 v 0 l)) o; above = λ i h. absurd (omega arith) }
+
 module _ (g : Graph) (n : ℕ) (up stack : List ℕ) (top : ℕ) (C : Chain g n up stack top) (y : ℕ) (l : top + 1 < length stack) where
   keep : (i : ℕ) → i ≤ top → get_or (set stack (top + 1) y) i 0 ≡ get_or stack i 0
   keep i h = get_or-set_other stack (top + 1) i y 0 (λ e. omega arith)

@@ -9,6 +9,13 @@ use Rattle.network.specs.declared.Step.TheVariants.{Forward, Backward}
 use Rattle.search.specs.Records.{link_of, first, second, graph_of, On, Sound}
 use Rattle.search.specs.declared.link.Link.{Link as Record}
 
+-- the number that f reads of the record at position p
+pub read_at : {L : Type 0} (f : Record L → ℕ) (links : List (Record L)) (p : ℕ) (r : Record L) → 1 ≤ p → p ≤ length links → r ≡ get_or links (p - 1) r → f r ≡ get_or (0 ∷ map f links) p 0
+read_at f links zero r a b e = absurd (omega arith)
+read_at f links (suc p) r a b e =
+    let q : suc p - 1 ≡ p = omega arith in
+    ap f (e ∙ ap (λ i. get_or links i r) q) ∙ sym (get_or-map f links p r 0 (omega arith))
+
 pub some : {X : Type 0} (xs : List X) → 0 < length xs → X
 some [] h = absurd (omega arith)
 some (x ∷ xs) h = x

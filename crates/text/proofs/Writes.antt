@@ -1,6 +1,6 @@
 -- One write after another.
-use Rattle.std.proofs.Common.{◌≡◌, ℕ, ◌+◌, ◌-◌, ◌≤◌, List, [], ◌++◌, length, take, drop, sym, refl, ap, ◌∙◌, subst, append_assoc, append-nil, arith, length-append}
-use Rattle.std.proofs.lemmas.List.{drop-drop}
+use Rattle.std.proofs.Common.{◌≡◌, ℕ, ◌+◌, ◌-◌, ◌<◌, ◌≤◌, List, [], ◌∷◌, ◌++◌, length, take, drop, set, sym, refl, ap, ◌∙◌, subst, append_assoc, append-nil, arith, length-append}
+use Rattle.std.proofs.lemmas.List.{take_more_set, drop-set-lt, drop-drop}
 use Rattle.std.proofs.lemmas.Slice.{take-put_mid, drop-put_mid}
 use borrow.Rule.Slice.PartMut.{put_mid}
 use Rattle.text.specs.Writing.{Wrote}
@@ -18,6 +18,14 @@ then {a} {b} {c} {bs} {cs} {i} {j} {k} p q = record {
   past = q.past ∙ past_later b a j k (omega (arith, q.ends)) p.past;
 }
 
+-- one byte
+pub byte : (row : List ℕ) (at b : ℕ) → at < length row → Wrote row at (b ∷ []) (set row at b) (at + 1)
+byte row at b h = record {
+  ends = refl;
+  front = take_more_set row at b h;
+  past = drop-set-lt (at + 1) row at b (omega arith);
+}
+
 -- nothing
 pub none : (row : List ℕ) (at : ℕ) → Wrote row at [] row at
 none row at = record { ends = omega arith; front = simp append-nil; past = refl }
@@ -31,3 +39,7 @@ text row at k bs ys e l h =
       front = take-put_mid at k row ys (at + length bs) (omega (arith, n)) le ∙ ap (λ zs. take at row ++ zs) e;
       past = drop-put_mid at k row ys (at + length bs) (omega arith) le (omega arith);
     }
+
+-- what stands in a row after a first write
+pub begins : (row bs row' : List ℕ) (end : ℕ) → Wrote row 0 bs row' end → take end row' ≡ bs
+begins row bs row' end w = w.front

@@ -3,7 +3,9 @@
 ghost use Rattle.std.specs.Prelude.{◌≡◌, ◌<◌, ◌≤◌, true, length, decimal};
 ghost use Rattle.std.specs.Fmt.{signed_decimal, digit_glyph};
 
-use itoa::Buffer;
+mod digits;
+
+use crate::digits::{put_number, put_signed};
 
 // A printed number has at most so many bytes: a line of 1,024 of them has to fit its row.
 const LIMIT: usize = 28;
@@ -24,14 +26,18 @@ impl Text {
     pub fn of_number(n: u64) -> Text
         ensures { bytes_of result ≡ decimal n }
     {
-        Text::of_bytes(Buffer::new().format(n).as_bytes())
+        let mut bytes = [0u8; LIMIT];
+        let len = put_number(&mut bytes, 0, n);
+        Text { bytes, len }
     }
 
     /// The same with a `-` before a number below zero.
     pub fn of_signed(z: i64) -> Text
         ensures { bytes_of result ≡ signed_decimal z }
     {
-        Text::of_bytes(Buffer::new().format(z).as_bytes())
+        let mut bytes = [0u8; LIMIT];
+        let len = put_signed(&mut bytes, z);
+        Text { bytes, len }
     }
 
     /// A word as eight hexadecimal digits.
@@ -57,9 +63,8 @@ impl Text {
         &self.bytes[..self.len]
     }
 
-    // No number of 64 bits has a longer text than 20 bytes, its sign included.
     fn of_bytes(text: &[u8]) -> Text
-        requires { length text.now ≤ 20 }
+        requires { length text.now ≤ 28 }
         ensures { bytes_of result ≡ text.now }
     {
         let mut bytes = [0u8; LIMIT];

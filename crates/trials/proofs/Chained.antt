@@ -46,36 +46,37 @@ too_late : Fits K (first ∷ second ∷ third (pos 8) ∷ []) → ⊥
 too_late (c, m) = omega (arith, ints, m 1 (omega arith), m 2 (omega arith), m 3 (omega arith))
 
 -- the second link and the third are ready, where those before them stand
-after_one : (l : Link ℤ) → (1 ≤ l.from) × (l.from < 3) × (l.to ≡ 3) → Ready tick_meaning (holds 3 (first ∷ [])) l (lent 6)
-after_one l h = is_ready tick_meaning 3 (first ∷ []) l (omega arith) (omega arith) (omega arith) (λ e. omega arith) ((λ e. omega arith), tt)
+module _ {room : ℕ} (enough : 6 ≤ room) where
+  after_one : (l : Link ℤ) → (1 ≤ l.from) × (l.from < 3) × (l.to ≡ 3) → Ready tick_meaning (holds 3 (first ∷ [])) l (lent room)
+  after_one l h = is_ready tick_meaning 3 room (first ∷ []) l (omega arith) enough (omega arith) (omega arith) (λ e. omega arith) ((λ e. omega arith), tt)
 
-after_two : (wanted : ℤ) → Ready tick_meaning (holds 3 (first ∷ second ∷ [])) (third wanted) (lent 6)
-after_two wanted = is_ready tick_meaning 3 (first ∷ second ∷ []) (third wanted) (omega arith) (omega arith) (omega arith) (λ e. omega arith) ((λ e. omega arith), ((λ e. omega arith), tt))
+  after_two : (wanted : ℤ) → Ready tick_meaning (holds 3 (first ∷ second ∷ [])) (third wanted) (lent room)
+  after_two wanted = is_ready tick_meaning 3 room (first ∷ second ∷ []) (third wanted) (omega arith) enough (omega arith) (omega arith) (λ e. omega arith) ((λ e. omega arith), ((λ e. omega arith), tt))
 
 abbrev Holds : Store TickLatency → List (Link ℤ) → Type 0
 Holds b links = Reached tick_meaning b (holds 3 links)
 
-module _ {b t : Store TickLatency} {o : Outcome} where
-  pub one_enters : Holds b [] → Came tick_meaning b (LINK first (lent 6)) o t → (o ≡ Ok tt) × Holds t (first ∷ [])
-  one_enters at came = first_enters tick_meaning 3 at came (is_ready tick_meaning 3 [] first (omega arith) (omega arith) (omega arith) (λ e. omega arith) tt)
+module _ {b t : Store TickLatency} {o : Outcome} {room : ℕ} (enough : 6 ≤ room) where
+  pub one_enters : Holds b [] → Came tick_meaning b (LINK first (lent room)) o t → (o ≡ Ok tt) × Holds t (first ∷ [])
+  one_enters at came = first_enters tick_meaning 3 at came (is_ready tick_meaning 3 room [] first (omega arith) enough (omega arith) (omega arith) (λ e. omega arith) tt)
 
-  pub two_enters : Holds b (first ∷ []) → Came tick_meaning b (LINK second (lent 6)) o t → (o ≡ Ok tt) × Holds t (first ∷ second ∷ [])
-  two_enters at came = enters tick_meaning 3 (first ∷ []) at came (after_one second (omega arith)) (fits_by tick_meaning (pos 0 ∷ pos 1 ∷ pos 3 ∷ []) (first ∷ second ∷ []) (refl, (refl, tt)))
+  pub two_enters : Holds b (first ∷ []) → Came tick_meaning b (LINK second (lent room)) o t → (o ≡ Ok tt) × Holds t (first ∷ second ∷ [])
+  two_enters at came = enters tick_meaning 3 (first ∷ []) at came (after_one enough second (omega arith)) (fits_by tick_meaning (pos 0 ∷ pos 1 ∷ pos 3 ∷ []) (first ∷ second ∷ []) (refl, (refl, tt)))
 
-  pub closing_enters : Holds b (first ∷ second ∷ []) → Came tick_meaning b (LINK (third (pos 7)) (lent 6)) o t → (o ≡ Ok tt) × Holds t (first ∷ second ∷ third (pos 7) ∷ [])
+  pub closing_enters : Holds b (first ∷ second ∷ []) → Came tick_meaning b (LINK (third (pos 7)) (lent room)) o t → (o ≡ Ok tt) × Holds t (first ∷ second ∷ third (pos 7) ∷ [])
   closing_enters at came =
-      enters tick_meaning 3 (first ∷ second ∷ []) at came (after_two (pos 7)) (fits_by tick_meaning (pos 0 ∷ pos 1 ∷ pos 3 ∷ []) (first ∷ second ∷ third (pos 7) ∷ []) (refl, (refl, (refl, tt))))
+      enters tick_meaning 3 (first ∷ second ∷ []) at came (after_two enough (pos 7)) (fits_by tick_meaning (pos 0 ∷ pos 1 ∷ pos 3 ∷ []) (first ∷ second ∷ third (pos 7) ∷ []) (refl, (refl, (refl, tt))))
 
-  pub late_contradicts : Holds b (first ∷ second ∷ []) → Came tick_meaning b (LINK (third (pos 8)) (lent 6)) o t → o ≡ Err (record { refusal = Contradicts; steps = 2; words = 0xB000_0002 ∷ 0xB000_0001 ∷ 0 ∷ [] })
+  pub late_contradicts : Holds b (first ∷ second ∷ []) → Came tick_meaning b (LINK (third (pos 8)) (lent room)) o t → o ≡ Err (record { refusal = Contradicts; steps = 2; words = 0xB000_0002 ∷ 0xB000_0001 ∷ 0 ∷ [] })
   late_contradicts at came =
-      contradicts tick_meaning 3 (first ∷ second ∷ []) at came (after_two (pos 8)) too_late (Backward 2 ∷ Backward 1 ∷ [])
+      contradicts tick_meaning 3 (first ∷ second ∷ []) at came (after_two enough (pos 8)) too_late (Backward 2 ∷ Backward 1 ∷ [])
       ((λ _. way_back), λ n. absurd (n (Backward 2 ∷ Backward 1 ∷ [], (refl, omega arith, (refl, omega arith, refl)))))
 
   -- without the second link it fits
-  pub late_enters : Holds b (first ∷ []) → Came tick_meaning b (LINK (third (pos 8)) (lent 6)) o t → o ≡ Ok tt
-  late_enters at came = (enters tick_meaning 3 (first ∷ []) at came (after_one (third (pos 8)) (omega arith)) (fits_by tick_meaning (pos 0 ∷ pos 1 ∷ pos 4 ∷ []) (first ∷ third (pos 8) ∷ []) (refl, (refl, tt)))).0
+  pub late_enters : Holds b (first ∷ []) → Came tick_meaning b (LINK (third (pos 8)) (lent room)) o t → o ≡ Ok tt
+  late_enters at came = (enters tick_meaning 3 (first ∷ []) at came (after_one enough (third (pos 8)) (omega arith)) (fits_by tick_meaning (pos 0 ∷ pos 1 ∷ pos 4 ∷ []) (first ∷ third (pos 8) ∷ []) (refl, (refl, tt)))).0
 
-  pub second_struck : Holds b (first ∷ second ∷ []) → Came tick_meaning b (STRIKE 2 3) o t → (o ≡ Ok tt) × Holds t (first ∷ [])
-  second_struck at came =
-      takes tick_meaning (holds 3 (first ∷ second ∷ [])) at came (holds 3 (first ∷ []))
-      (yields done (false≢true, ((λ f. f (omega arith)), ((λ f. f (2, (omega arith, refl, refl))), tt))) (struck 2 3)) (by_strike 2 3 1 (omega arith, refl, refl))
+pub second_struck : {b t : Store TickLatency} {o : Outcome} → Holds b (first ∷ second ∷ []) → Came tick_meaning b (STRIKE 2 3) o t → (o ≡ Ok tt) × Holds t (first ∷ [])
+second_struck at came =
+    takes tick_meaning (holds 3 (first ∷ second ∷ [])) at came (holds 3 (first ∷ []))
+    (yields done (false≢true, ((λ f. f (omega arith)), ((λ f. f (2, (omega arith, refl, refl))), tt))) (struck 2 3)) (by_strike 2 3 1 (omega arith, refl, refl))

@@ -41,13 +41,13 @@ module _ {L T : Type 0} (M : Meaning L T) where
   abbrev Other : Link Q → Link Q → Type 0
   Other l k = (k.from ≡ l.from) × (k.to ≡ l.to) → ⊥
 
-  -- on up to three switches, with room for one link more, and two totals for each switch
-  pub is_ready : (n : ℕ) (links : List (Link Q)) (l : Link Q) → n ≤ 3 → length links < 3 → Inside n (l.from ∷ l.to ∷ []) → (l.from ≡ l.to → ⊥) → AllByRecursion (Other l) links → Ready M (holds n links) l (lent (2 * n))
-  is_ready n links l few short inside apart new = record {
+  -- on up to three switches, with room for one link more
+  pub is_ready : (n room : ℕ) (links : List (Link Q)) (l : Link Q) → n ≤ 3 → 2 * n ≤ room → length links < 3 → Inside n (l.from ∷ l.to ∷ []) → (l.from ≡ l.to → ⊥) → AllByRecursion (Other l) links → Ready M (holds n links) l (lent room)
+  is_ready n room links l few enough short inside apart new = record {
     unissued = refl;
     inside = inside;
     apart = apart;
     new = λ s. each (Other l) links new s.0 s.1.0 (s.1.1, s.1.2);
     room = short;
-    enough = (omega arith, omega arith, few);
+    enough = (enough, omega arith, few);
   }

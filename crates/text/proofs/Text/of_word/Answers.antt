@@ -1,8 +1,12 @@
-use Rattle.std.proofs.Common.{◌≡◌, ℕ, zero, suc, ◌+◌, ◌-◌, ◌/◌, ◌%◌, ◌<◌, ◌≤◌, true, List, [], ◌∷◌, ◌++◌, length, drop, set, sym, refl, ◌∙◌, append_assoc, arith, length-set}
+use Rattle.std.proofs.Common.{◌≡◌, ℕ, zero, suc, ◌+◌, ◌-◌, ◌/◌, ◌%◌, ◌<◌, ◌≤◌, true, List, [], ◌∷◌, ◌++◌, length, drop, set, sym, refl, ap, ◌∙◌, append_assoc, arith, length-set}
 use Rattle.std.specs.Fmt.{digit_glyph}
 use Rattle.std.proofs.lemmas.List.{drop-set}
 use Rattle.text.specs.Writing.{hex}
 use Rattle.text.proofs.Text.of_word.Goals as goal
+
+hex_none : (k w : ℕ) → k ≡ 0 → hex k w ≡ []
+unfolding hex
+hex_none k w e = rw e refl
 
 hex_more : (k w : ℕ) → 0 < k → hex k w ≡ hex (k - 1) (w / 16) ++ (digit_glyph true (w % 16) ∷ [])
 unfolding hex
@@ -16,8 +20,7 @@ one_more k w d ds h l e =
     rw (drop-set ds (k - 1) d (omega arith), s, hex_more k w h, e, append_assoc) refl
 
 all_digits : (k w : ℕ) (ds : List ℕ) → k ≤ 0 → hex k w ++ drop k ds ≡ ds
-unfolding hex
-all_digits zero w ds h = refl
+all_digits zero w ds h = ap (λ (xs : List ℕ). xs ++ ds) (hex_none zero w refl)
 all_digits (suc k) w ds h = absurd (omega arith)
 
 pub loop-i-preserved : goal.loop-i-preserved

@@ -9,7 +9,7 @@ returns g c =
     let room : length c.args.totals.now ≡ 4 = search rules in
     let room-2 : length c.link-out.new.totals ≡ 4 = search rules in
     let sized = sizes M 2 (lit≤ tt) (lit≤ tt) (search rules) c.size-sized.ensures in
-    let out = out_enters M sized.1 (rw room at c.link-out.ensures) in
+    let out = out_enters M (lit≤ tt) sized.1 (rw room at c.link-out.ensures) in
     record {
       before = c.link-out.new.book.store;
       after = c.link-back.new.book.store;
